@@ -1,0 +1,4 @@
+pub mod Spelling
+pub mod Lexing
+pub mod Scan
+pub mod Laws

@@ -1,0 +1,8 @@
+// The tokens of a source.
+mod types;
+
+pub use types::Keyword;
+pub use types::Mark;
+pub use types::Placed;
+pub use types::Token;
+pub use types::Trouble;
