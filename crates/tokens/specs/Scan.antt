@@ -15,10 +15,17 @@ use Rattle.tokens.specs.declared.types.Keyword.{Keyword}
 use Rattle.tokens.specs.declared.types.Keyword.the-variants.{Mutable, Int, Ref, Q, If, Else, While, Free, Print, Return, Nil}
 use Rattle.tokens.specs.declared.types.Mark.{Mark}
 use Rattle.tokens.specs.declared.types.Mark.the-variants.{LeftParen, RightParen, LeftBrace, RightBrace, Comma, Semicolon, Assign, Plus, Minus, Star, Dot, Less, Greater, LessEqual, GreaterEqual, EqualEqual, NotEqual, Not, AndAnd, OrOr}
+use Rattle.tokens.specs.declared.types.Run.{Run}
+use Rattle.tokens.specs.declared.types.Run.the-variants.{Word, Digits}
 use Rattle.tokens.specs.declared.types.Trouble.{Trouble}
 use Rattle.tokens.specs.declared.types.Trouble.the-variants.{NoToken, OpenComment, LargeConstant}
 use Rattle.tokens.specs.Spelling.{Symbol, name, constant, keyword, mark, end, trouble, Item, item, keywordText, wordy, reading}
 use Rattle.tokens.specs.Lexing.{largest}
+
+-- the bytes of a run
+abbrev pub taking : Run → ℕ → Bool
+taking Word b = wordy b
+taking Digits b = digit b
 
 -- how many bytes at the front pass a test
 unfoldable pub run : (ℕ → Bool) → List ℕ → ℕ

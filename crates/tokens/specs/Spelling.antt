@@ -81,7 +81,7 @@ wordy b = cond (letter b) true (digit b)
 -- a decimal number with more digits after it
 abbrev pub readingFrom : ℕ → List ℕ → ℕ
 readingFrom n [] = n
-readingFrom n (d ∷ ds) = readingFrom (10 * n + (d - 48)) ds
+readingFrom n (d ∷ ds) = readingFrom (n * 10 + (d - 48)) ds
 
 -- the decimal reading of digits
 abbrev pub reading : List ℕ → ℕ

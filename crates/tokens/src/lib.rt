@@ -1,5 +1,7 @@
 // The tokens of a source.
+mod texts;
 mod types;
+mod words;
 
 pub use types::Keyword;
 pub use types::Mark;

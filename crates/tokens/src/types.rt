@@ -63,3 +63,10 @@ pub struct Placed<'a> {
     pub token: Token<'a>,
     pub at: usize,
 }
+
+// A run of bytes that is taken as far as it goes.
+#[derive(Clone, Copy)]
+pub(crate) enum Run {
+    Word,
+    Digits,
+}
