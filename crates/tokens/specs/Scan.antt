@@ -87,6 +87,10 @@ abbrev pub commentBy : Option ℕ → Front
 commentBy None = stop (trouble OpenComment)
 commentBy (Some n) = gap (n + 4)
 
+-- what begins with a slash, by the text after it
+abbrev pub comment : List ℕ → Front
+comment bs = cond (starts 42 bs) (commentBy (closing (drop 1 bs))) (stop (trouble NoToken))
+
 -- a mark of one byte
 abbrev pub one : Mark → Front
 one m = found 1 (mark m)
@@ -99,7 +103,7 @@ oneOrTwo x m n bs = cond (starts x bs) (found 2 (mark n)) (one m)
 abbrev pub two : ℕ → Mark → List ℕ → Front
 two x n bs = cond (starts x bs) (found 2 (mark n)) (stop (trouble NoToken))
 
--- what begins with a byte of the class
+-- what begins with a byte of the class, by that byte and the text after it
 abbrev pub frontBy : Class → ℕ → List ℕ → Front
 frontBy class.Letter b bs = word (b ∷ take (run wordy bs) bs)
 frontBy class.Digit b bs = number (b ∷ take (run digit bs) bs)
@@ -120,7 +124,7 @@ frontBy class.Greater b bs = oneOrTwo 61 Greater GreaterEqual bs
 frontBy class.Bang b bs = oneOrTwo 61 Not NotEqual bs
 frontBy class.Ampersand b bs = two 38 AndAnd bs
 frontBy class.Pipe b bs = two 124 OrOr bs
-frontBy class.Slash b bs = cond (starts 42 bs) (commentBy (closing (drop 1 bs))) (stop (trouble NoToken))
+frontBy class.Slash b bs = comment bs
 frontBy class.Other b bs = stop (trouble NoToken)
 
 unfoldable pub front : List ℕ → Front
@@ -141,3 +145,12 @@ lexedBy (suc n) at bs = itemsBy (λ k. lexedBy n (at + k) (drop k bs)) at (front
 -- the items of a text at an offset: each turn passes a byte or is the last
 unfoldable pub lexed : ℕ → List ℕ → List Item
 lexed at bs = lexedBy (suc (length bs)) at bs
+
+-- nothing comes after the end of the source or a trouble
+abbrev pub final : Symbol → Bool
+final (name w) = false
+final (constant n) = false
+final (keyword k) = false
+final (mark m) = false
+final end = true
+final (trouble t) = true

@@ -1,8 +1,11 @@
 // The tokens of a source.
+mod lexer;
+mod scan;
 mod texts;
 mod types;
 mod words;
 
+pub use lexer::Lexer;
 pub use types::Keyword;
 pub use types::Mark;
 pub use types::Placed;

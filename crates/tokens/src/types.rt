@@ -70,3 +70,11 @@ pub(crate) enum Run {
     Word,
     Digits,
 }
+
+// What stands at a place of the source: so many bytes to skip, a token of so many bytes, or the end or a trouble.
+#[derive(Clone, Copy)]
+pub(crate) enum Ahead<'a> {
+    Gap(usize),
+    Found(usize, Token<'a>),
+    Stop(Token<'a>),
+}

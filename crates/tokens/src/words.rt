@@ -1,7 +1,8 @@
 // The parts of a token that are longer than a mark: words, constants, and the comments between tokens.
 ghost use mathlib.Core.Path.{_≡_};
-ghost use Prim.Native.Nat.{_≤_};
+ghost use Prim.Native.Nat.{_+_, _≤_};
 ghost use lib.ListN.{length, drop};
+ghost use Rattle.std.specs.Slices.{found};
 ghost use Rattle.std.specs.shelf.Text.{sameBytes};
 ghost use Rattle.bytes.specs.Classes.{digit};
 ghost use Rattle.tokens.specs.Spelling.{wordy};
@@ -57,7 +58,8 @@ fn takes(kind: Run, b: u8) -> bool
 // How long the run at `at` is.
 pub(crate) fn run_len(source: &[u8], at: usize, kind: Run) -> usize
     requires { ⌜ at ≤ length (now source) ⌝ }
-    ensures { λ r. ⌜ r ≡ run (taking kind) (drop at (now (source .entry))) ⌝ }
+    ensures value { λ r. ⌜ r ≡ run (taking kind) (drop at (now (source .entry))) ⌝ }
+    ensures within { λ r. ⌜ at + r ≤ length (now (source .entry)) ⌝ }
 {
     let mut i = at;
     while i < source.len() && takes(kind, source[i]) {
@@ -69,7 +71,8 @@ pub(crate) fn run_len(source: &[u8], at: usize, kind: Run) -> usize
 // How many bytes of a comment that was opened stand before its first closing.
 pub(crate) fn body_len(source: &[u8], at: usize) -> Option<usize>
     requires { ⌜ at ≤ length (now source) ⌝ }
-    ensures { λ r. ⌜ r ≡ closing (drop at (now (source .entry))) ⌝ }
+    ensures value { λ r. ⌜ r ≡ closing (drop at (now (source .entry))) ⌝ }
+    ensures within { λ r. ⌜ found r (λ n. at + n + 2 ≤ length (now (source .entry))) ⌝ }
 {
     let mut i = at;
     while i < source.len() {

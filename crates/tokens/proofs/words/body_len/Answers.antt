@@ -18,7 +18,7 @@ returns-then-source-i-eq47 c =
     let i = c .loop-i .i in
     let slash = starts-at 47 s (i + 1) (c .if-i-source .taken) ∙ eq-eqb _ 47 (c .if-source-i-eq47 .taken) in
     let here = closing-here s i (c .loop-i-test .taken) (and-from _ _ (eq-eqb _ 42 (c .if-source-i-eq42 .taken)) slash) in
-    sym (c .loop-i .inv .2 ∙ ap (later (i - c .args .at)) here ∙ ap Some (add-zero _))
+    record { value = sym (c .loop-i .inv .2 ∙ ap (later (i - c .args .at)) here ∙ ap Some (add-zero _)); within = omega arith }
 
 pub loop-i-again : need.loop-i-again
 loop-i-again c =
@@ -35,4 +35,4 @@ loop-i-again c =
     (omega arith, omega arith, c .loop-i .inv .2 ∙ ap (later (i - c .args .at)) (closing-on s i (c .loop-i-test .taken) off) ∙ later-later (i - c .args .at) 1 _ ∙ ap (λ k. later k (closing (drop (i + 1) s))) more)
 
 pub returns : need.returns
-returns c = sym (c .loop-i .inv .2 ∙ ap (later (c .loop-i .i - c .args .at)) (closing-end _ _ (c .loop-i-test .left)))
+returns c = record { value = sym (c .loop-i .inv .2 ∙ ap (later (c .loop-i .i - c .args .at)) (closing-end _ _ (c .loop-i-test .left))); within = tt }
