@@ -12,15 +12,16 @@ use Rattle.std.proofs.shelf.Tests.{cond-both, and-parts}
 use Rattle.bytes.specs.Classes.{classOf, digit}
 use Rattle.bytes.specs.declared.Class.{Class}
 use Rattle.bytes.specs.declared.Class.the-variants as class
+use Rattle.tokens.specs.declared.types.Keyword.{Keyword}
 use Rattle.tokens.specs.declared.types.Mark.{Mark}
 use Rattle.tokens.specs.Spelling.{Symbol, Item, item, wordy}
-use Rattle.tokens.specs.Scan.{run, starts, valueOf, later, closing, Front, gap, found, stop, numberBy, commentBy, oneOrTwo, two, frontBy, front, itemsBy, lexedBy, lexed}
+use Rattle.tokens.specs.Scan.{run, starts, valueOf, later, closing, keywordOf, Front, gap, found, stop, wordSymbol, numberBy, commentBy, oneOrTwo, two, frontBy, front, itemsBy, lexedBy, lexed, final}
 
--- what stands first passes a byte at least, and n bytes at most
+-- what stands first passes a byte at least, and n bytes at most; it is a token, or it is the last item
 abbrev Passes : ℕ → Front → Type 0
 Passes n (gap k) = (0 < k) × (k ≤ n)
-Passes n (found k s) = (0 < k) × (k ≤ n)
-Passes n (stop s) = Unit {0}
+Passes n (found k s) = (0 < k) × (k ≤ n) × (final s ≡ false)
+Passes n (stop s) = final s ≡ true
 
 starts-long : (x : ℕ) (bs : List ℕ) → starts x bs ≡ true → 0 < length bs
 starts-long x [] h = let z : _≡_ {A = ℕ} 0 1 = cc in omega arith
@@ -44,34 +45,39 @@ closing-within (b ∷ bs) =
       (λ e. later-within (length bs) (closing bs) (closing-within bs))
 
 number-passes : (n k : ℕ) (o : Option ℕ) → 0 < k → k ≤ n → Passes n (numberBy k o)
-number-passes n k None l h = tt
-number-passes n k (Some v) l h = (l, h)
+number-passes n k None l h = refl
+number-passes n k (Some v) l h = (l, h, refl)
 
 comment-passes : (n : ℕ) (o : Option ℕ) → Within n o → Passes (suc (suc n)) (commentBy o)
-comment-passes n None h = tt
+comment-passes n None h = refl
 comment-passes n (Some k) h = (omega arith, omega arith)
 
 -- the first byte and a front of the others
 front-fits : (n : ℕ) (bs : List ℕ) → suc (length (take n bs)) ≤ suc (length bs)
 front-fits n bs = simp length-take (omega arith)
 
-one-passes : (n : ℕ) → (0 < 1) × (1 ≤ suc n)
-one-passes n = (omega arith, omega arith)
+-- a word is a token, be it a name or a keyword
+word-goes-on : (w : List ℕ) (o : Option Keyword) → final (wordSymbol w o) ≡ false
+word-goes-on w None = refl
+word-goes-on w (Some k) = refl
+
+one-passes : (n : ℕ) → (0 < 1) × (1 ≤ suc n) × (false ≡ false)
+one-passes n = (omega arith, omega arith, refl)
 
 oneOrTwo-passes : (x : ℕ) (m n : Mark) (bs : List ℕ) → Passes (suc (length bs)) (oneOrTwo x m n bs)
-oneOrTwo-passes x m n bs = cond-both (starts x bs) _ _ (Passes (suc (length bs))) (λ e. let l = starts-long x bs e in (omega arith, omega arith)) (λ e. one-passes (length bs))
+oneOrTwo-passes x m n bs = cond-both (starts x bs) _ _ (Passes (suc (length bs))) (λ e. let l = starts-long x bs e in (omega arith, omega arith, refl)) (λ e. one-passes (length bs))
 
 two-passes : (x : ℕ) (n : Mark) (bs : List ℕ) → Passes (suc (length bs)) (two x n bs)
-two-passes x n bs = cond-both (starts x bs) _ _ (Passes (suc (length bs))) (λ e. let l = starts-long x bs e in (omega arith, omega arith)) (λ e. tt)
+two-passes x n bs = cond-both (starts x bs) _ _ (Passes (suc (length bs))) (λ e. let l = starts-long x bs e in (omega arith, omega arith, refl)) (λ e. refl)
 
 slash-passes : (b : ℕ) (bs : List ℕ) → Passes (suc (length bs)) (frontBy class.Slash b bs)
-slash-passes b [] = tt
-slash-passes b (c ∷ bs) = cond-both (starts 42 (c ∷ bs)) _ _ (Passes (suc (suc (length bs)))) (λ e. comment-passes (length bs) (closing bs) (closing-within bs)) (λ e. tt)
+slash-passes b [] = refl
+slash-passes b (c ∷ bs) = cond-both (starts 42 (c ∷ bs)) _ _ (Passes (suc (suc (length bs)))) (λ e. comment-passes (length bs) (closing bs) (closing-within bs)) (λ e. refl)
 
 by-passes : (c : Class) (b : ℕ) (bs : List ℕ) → Passes (suc (length bs)) (frontBy c b bs)
-by-passes class.Letter b bs = (omega arith, front-fits (run wordy bs) bs)
+by-passes class.Letter b bs = (omega arith, front-fits (run wordy bs) bs, word-goes-on _ (keywordOf (b ∷ take (run wordy bs) bs)))
 by-passes class.Digit b bs = number-passes (suc (length bs)) _ (valueOf (b ∷ take (run digit bs) bs)) (omega arith) (front-fits (run digit bs) bs)
-by-passes class.Blank b bs = one-passes (length bs)
+by-passes class.Blank b bs = (omega arith, omega arith)
 by-passes class.LeftParen b bs = one-passes (length bs)
 by-passes class.RightParen b bs = one-passes (length bs)
 by-passes class.LeftBrace b bs = one-passes (length bs)
@@ -89,18 +95,24 @@ by-passes class.Bang b bs = oneOrTwo-passes 61 _ _ bs
 by-passes class.Ampersand b bs = two-passes 38 _ bs
 by-passes class.Pipe b bs = two-passes 124 _ bs
 by-passes class.Slash b bs = slash-passes b bs
-by-passes class.Other b bs = tt
+by-passes class.Other b bs = refl
 
 front-passes : (bs : List ℕ) → Passes (length bs) (front bs)
 unfolding front
-front-passes [] = tt
+front-passes [] = refl
 front-passes (b ∷ bs) = by-passes (classOf b) b bs
 
 pub gap-long : (bs : List ℕ) (k : ℕ) → front bs ≡ gap k → (0 < k) × (k ≤ length bs)
 gap-long bs k e = subst (Passes (length bs)) e (front-passes bs)
 
 pub found-long : (bs : List ℕ) (k : ℕ) (s : Symbol) → front bs ≡ found k s → (0 < k) × (k ≤ length bs)
-found-long bs k s e = subst (Passes (length bs)) e (front-passes bs)
+found-long bs k s e = let h = subst (Passes (length bs)) e (front-passes bs) in (h .0, h .1)
+
+pub found-goes-on : (bs : List ℕ) (k : ℕ) (s : Symbol) → front bs ≡ found k s → final s ≡ false
+found-goes-on bs k s e = subst (Passes (length bs)) e (front-passes bs) .2
+
+pub stop-is-last : (bs : List ℕ) (s : Symbol) → front bs ≡ stop s → final s ≡ true
+stop-is-last bs s e = subst (Passes (length bs)) e (front-passes bs)
 
 -- what is left after a byte or more is shorter
 drop-shorter : (k n : ℕ) (bs : List ℕ) → 0 < k → k ≤ length bs → length bs < suc n → length (drop k bs) < n
@@ -115,7 +127,7 @@ enough-turns (suc n) (suc m) at bs f g = on (front bs) (front-passes bs) (enough
   where
     on : (w : Front) → Passes (length bs) w → ((at : ℕ) (bs : List ℕ) → length bs < n → length bs < m → lexedBy n at bs ≡ lexedBy m at bs) → itemsBy (λ k. lexedBy n (at + k) (drop k bs)) at w ≡ itemsBy (λ k. lexedBy m (at + k) (drop k bs)) at w
     on (gap k) (l, h) rec = rec (at + k) (drop k bs) (drop-shorter k n bs l h f) (drop-shorter k m bs l h g)
-    on (found k s) (l, h) rec = ap (λ is. item s at ∷ is) (rec (at + k) (drop k bs) (drop-shorter k n bs l h f) (drop-shorter k m bs l h g))
+    on (found k s) (l, h, goes-on) rec = ap (λ is. item s at ∷ is) (rec (at + k) (drop k bs) (drop-shorter k n bs l h f) (drop-shorter k m bs l h g))
     on (stop s) h rec = refl
 
 -- after k bytes the turns left are enough

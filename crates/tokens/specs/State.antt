@@ -2,7 +2,7 @@
 use mathlib.Core.Path.{_≡_}
 use mathlib.Core.Bool.{true, cond}
 use mathlib.Core.List.{List, [], _∷_}
-use Prim.Native.Nat.{ℕ, _+_, _<_}
+use Prim.Native.Nat.{ℕ, _+_, _≤_, _<_}
 use lib.ListN.{length, getD, drop}
 use Rattle.tokens.specs.declared.types.Ahead.{Ahead}
 use Rattle.tokens.specs.declared.types.Ahead.the-variants.{Gap, Found, Stop}
@@ -30,6 +30,12 @@ beyond l = drop (l .pos + 1) (l .source .now)
 -- a byte stands at the lexer's place
 abbrev pub Inside : Lexer → Type 0
 Inside l = l .pos < length (l .source .now)
+
+-- what stands here is not empty, and ends within the source
+abbrev pub Advances : Lexer → Ahead → Type 0
+Advances l (Gap n) = (0 < n) × (l .pos + n ≤ length (l .source .now))
+Advances l (Found n t) = (0 < n) × (l .pos + n ≤ length (l .source .now))
+Advances l (Stop t) = Unit {0}
 
 -- the items that a lexer will hand out
 abbrev pub toCome : Lexer → List Item

@@ -5,7 +5,7 @@ ghost use lib.ListN.{take};
 ghost use Rattle.bytes.specs.Classes.{digit};
 ghost use Rattle.tokens.specs.Spelling.{wordy, symbolOf};
 ghost use Rattle.tokens.specs.Scan.{run, starts, word, number, comment, one, oneOrTwo, two, frontBy, front, final};
-ghost use Rattle.tokens.specs.State.{frontOf, rest, here, beyond, Inside, Took};
+ghost use Rattle.tokens.specs.State.{frontOf, rest, here, beyond, Inside, Advances, Took};
 use crate::lexer::Lexer;
 use crate::types::Ahead;
 use crate::types::Mark;
@@ -144,11 +144,29 @@ impl<'a> Lexer<'a> {
     }
 
     fn ahead(&self) -> Ahead<'a>
-        ensures { λ r. ⌜ frontOf r ≡ front (rest (now (self .entry))) ⌝ }
+        ensures value { λ r. ⌜ frontOf r ≡ front (rest (now (self .entry))) ⌝ }
+        ensures within { λ r. ⌜ Advances (now (self .entry)) r ⌝ }
     {
         if self.pos >= self.source.len() {
             return Ahead::Stop(Token::End);
         }
         self.ahead_by(class_at(self.source[self.pos]))
+    }
+
+    // The next token. At the end of the source and at a trouble the lexer stays, and answers the same again.
+    pub fn next_token(&mut self) -> Placed<'a>
+        ensures { λ r. ⌜ Took (now (self .entry)) r (now (self .exit)) ⌝ }
+    {
+        loop {
+            let at = self.pos;
+            match self.ahead() {
+                Ahead::Gap(n) => self.pos += n,
+                Ahead::Found(n, token) => {
+                    self.pos += n;
+                    return Placed { token, at };
+                }
+                Ahead::Stop(token) => return Placed { token, at },
+            }
+        }
     }
 }
