@@ -1,11 +1,14 @@
 // The tokens of a source.
+mod fill;
 mod lexer;
+mod list;
 mod scan;
 mod texts;
 mod types;
 mod words;
 
 pub use lexer::Lexer;
+pub use list::TokenList;
 pub use types::Keyword;
 pub use types::Mark;
 pub use types::Placed;
