@@ -14,6 +14,7 @@ use Rattle.std.specs.shelf.Text.{sameBytes}
 use Rattle.std.proofs.shelf.Lists.{drop-more, drop-all}
 use Rattle.std.proofs.shelf.Tests.{cases-bool, cond-true, cond-false, le-leb, lt-leb}
 use Rattle.bytes.specs.Classes.{classOf, letter, digit}
+use Rattle.bytes.proofs.Says.{letter-class, digit-class}
 use Rattle.bytes.specs.declared.Class.the-variants.{Letter, Digit}
 use Rattle.tokens.specs.declared.types.Keyword.{Keyword}
 use Rattle.tokens.specs.Spelling.{wordy, reading, readingFrom, keywordText}
@@ -24,12 +25,8 @@ use Rattle.tokens.specs.Scan.{run, starts, later, closing, keywordAmong, value
 pub not-wordy : (b : ℕ) → (classOf b ≡ Letter → ⊥) → (classOf b ≡ Digit → ⊥) → wordy b ≡ false
 not-wordy b not-letter not-digit =
     ⊎-elim
-    (λ yes-letter. absurd (not-letter (cond-true (letter b) _ _ yes-letter)))
-    (λ no-letter.
-        ⊎-elim
-        (λ yes-digit. absurd (not-digit (cond-false (letter b) _ _ no-letter ∙ cond-true (digit b) _ _ yes-digit)))
-        (λ no-digit. cond-false (letter b) _ _ no-letter ∙ no-digit)
-        (cases-bool (digit b)))
+    (λ is. absurd (not-letter (letter-class b is)))
+    (λ no-letter. cond-false (letter b) _ _ no-letter ∙ ⊎-elim (λ is. absurd (not-digit (digit-class b is))) (λ no-digit. no-digit) (cases-bool (digit b)))
     (cases-bool (letter b))
 
 -- the byte at i passes, so the run goes on after it

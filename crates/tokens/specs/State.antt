@@ -1,14 +1,15 @@
 -- What a lexer has before it, and what taking a token does. Assumes nothing.
 use mathlib.Core.Path.{_≡_}
 use mathlib.Core.Bool.{true, cond}
-use mathlib.Core.List.{List, [], _∷_}
+use mathlib.Core.List.{List, [], _∷_, map}
 use Prim.Native.Nat.{ℕ, _+_, _≤_, _<_}
-use lib.ListN.{length, getD, drop}
+use lib.ListN.{length, getD, take, drop}
 use Rattle.tokens.specs.declared.types.Ahead.{Ahead}
 use Rattle.tokens.specs.declared.types.Ahead.the-variants.{Gap, Found, Stop}
 use Rattle.tokens.specs.declared.types.Placed.{Placed}
 use Rattle.tokens.specs.declared.lexer.Lexer.{Lexer}
 use Rattle.tokens.specs.Spelling.{Item, symbolOf, itemOf}
+use Rattle.tokens.specs.Lexing.{Lexes}
 use Rattle.tokens.specs.Scan.{Front, gap, found, stop, lexed, final}
 
 abbrev pub frontOf : Ahead → Front
@@ -41,8 +42,21 @@ Advances l (Stop t) = Unit {0}
 abbrev pub toCome : Lexer → List Item
 toCome l = lexed (l .pos) (rest l)
 
+-- the items to come are those that the rules give the text from the lexer's place on, and no others
+pub record Exact (l : Lexer) : Type 0 where
+  pub derived : Lexes (l .pos) (rest l) (toCome l)
+  pub only : (items : List Item) → Lexes (l .pos) (rest l) items → items ≡ toCome l
+
 -- the first item to come is handed out; a token is passed, while the end or a trouble stays and is handed out again
 pub record Took (old : Lexer) (p : Placed) (new : Lexer) : Type 0 where
   pub source : new .source ≡ old .source
+  pub exact : Exact old
   pub first : toCome old ≡ itemOf p ∷ cond (final (symbolOf (p .token))) [] (toCome new)
   pub stays : final (symbolOf (p .token)) ≡ true → toCome new ≡ toCome old
+
+-- a list has the first items of a source, at most 2,049: those that the rules give it, and it has no others
+pub record Lexed (source : List ℕ) (list : List Placed) : Type 0 where
+  pub all : List Item
+  pub derived : Lexes 0 source all
+  pub only : (items : List Item) → Lexes 0 source items → items ≡ all
+  pub first : map itemOf list ≡ take 2049 all

@@ -5,7 +5,7 @@ ghost use lib.ListN.{take};
 ghost use Rattle.std.specs.Of.Vec.{vec-items};
 ghost use Rattle.std.specs.Vec.{made};
 ghost use Rattle.tokens.specs.Spelling.{itemOf};
-ghost use Rattle.tokens.specs.State.{toCome};
+ghost use Rattle.tokens.specs.State.{toCome, Lexed};
 use crate::lexer::Lexer;
 use crate::list::TokenList;
 use crate::types::Placed;
@@ -34,6 +34,14 @@ impl<'a> TokenList<'a> {
                 return;
             }
         }
+    }
+
+    // Fills the list with the items of the source, in place of those that it had.
+    pub fn fill(&mut self, source: &'a [u8])
+        ensures { λ _. ⌜ Lexed (now (source .entry)) (vec-items (now (self .exit) .items)) ⌝ }
+    {
+        self.items.clear();
+        self.take_all(Lexer::new(source));
     }
 
     pub fn items(&self) -> &[Placed<'a>]
