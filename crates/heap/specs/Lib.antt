@@ -1,0 +1,4 @@
+pub mod Model
+pub mod Reach
+pub mod Counts
+pub mod Trace
