@@ -52,6 +52,29 @@ markText Not = codes "!"
 markText AndAnd = codes "&&"
 markText OrOr = codes "||"
 
+-- the number of a mark, by which marks are told apart
+abbrev pub markNumber : Mark → ℕ
+markNumber LeftParen = 0
+markNumber RightParen = 1
+markNumber LeftBrace = 2
+markNumber RightBrace = 3
+markNumber Comma = 4
+markNumber Semicolon = 5
+markNumber Assign = 6
+markNumber Plus = 7
+markNumber Minus = 8
+markNumber Star = 9
+markNumber Dot = 10
+markNumber Less = 11
+markNumber Greater = 12
+markNumber LessEqual = 13
+markNumber GreaterEqual = 14
+markNumber EqualEqual = 15
+markNumber NotEqual = 16
+markNumber Not = 17
+markNumber AndAnd = 18
+markNumber OrOr = 19
+
 -- what a token stands for: a name by its bytes, a constant by its value, a keyword, a mark; then the end of the source, and why no token could be taken
 pub data Symbol : Type 0 where
   name : List ℕ → Symbol

@@ -1,4 +1,5 @@
 // The tokens of a source.
+mod equal;
 mod fill;
 mod lexer;
 mod list;
@@ -7,6 +8,8 @@ mod texts;
 mod types;
 mod words;
 
+pub use equal::MarkEq;
+pub use equal::MarkPartialEq;
 pub use lexer::Lexer;
 pub use list::TokenList;
 pub use types::Keyword;

@@ -15,7 +15,7 @@ pub enum Keyword {
     Nil,
 }
 
-#[derive(Clone, Copy, Debug, PartialEq, Eq)]
+#[derive(Clone, Copy, Debug)]
 pub enum Mark {
     LeftParen,
     RightParen,
