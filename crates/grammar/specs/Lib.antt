@@ -1,3 +1,5 @@
 pub mod Tokens
 pub mod Grammar
 pub mod Refusals
+pub mod Combine
+pub mod Parse
