@@ -1,0 +1,3 @@
+// Tests of bytes, tokens and positions on examples.
+#[cfg(test)]
+mod tests;
