@@ -2,3 +2,4 @@ pub mod Model
 pub mod Reach
 pub mod Counts
 pub mod Trace
+pub mod Release

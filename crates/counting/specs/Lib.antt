@@ -1,0 +1,5 @@
+pub mod Rule
+pub mod Chain
+pub mod Cells
+pub mod Work
+pub mod Whole
