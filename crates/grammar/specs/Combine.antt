@@ -1,5 +1,5 @@
 -- Readers of tokens, and how they are put together. Assumes nothing.
-use mathlib.Core.Bool.{Bool, true, false, cond}
+use mathlib.Core.Bool.{Bool, cond}
 use mathlib.Core.List.{List, [], _∷_}
 use Prim.Native.Nat.{ℕ, zero, suc}
 use lib.Dec.{eqb, ltb}
@@ -76,6 +76,7 @@ pub data Out (X : Type 0) : Type 0 where
   Done : X → List Tok → Out X
   Fail : List Tok → Why → Out X
 
+-- a reader
 abbrev pub Parser : Type 0 → Type 0
 Parser X = List Tok → Out X
 

@@ -14,25 +14,26 @@ use Rattle.script.specs.declared.types.Comparison.{Comparison}
 use Rattle.script.specs.declared.types.Comparison.the-variants as comparison
 use Rattle.script.specs.Tree as tree
 use Rattle.script.specs.Tree.{Expr, Exprs, Cond, Stmt, Stmts, Fun, Program}
-use Rattle.tokens.specs.declared.types.Keyword.{Keyword}
 use Rattle.tokens.specs.declared.types.Keyword.the-variants as word
-use Rattle.tokens.specs.declared.types.Mark.{Mark}
 use Rattle.tokens.specs.declared.types.Mark.the-variants as sign
-use Rattle.tokens.specs.Spelling.{Symbol, name, constant, keyword, mark, end, trouble, Item, item, troubleNumber}
-use Rattle.grammar.specs.Tokens.{Tok, offset, first}
+use Rattle.tokens.specs.Spelling.{Symbol, name, constant, keyword, mark, end, trouble, Item, troubleNumber}
+use Rattle.grammar.specs.Tokens.{offset, first}
 use Rattle.grammar.specs.Refusals.{tokens, Outcome, reads, refuses}
-use Rattle.grammar.specs.Combine.{kind, kind-at, is, Why, Bad, Deep, Many, Gas, Out, Done, Fail, Parser, next, after, from, ret, bad, no-more, on, want, peek, loop, many, separated, listed, ends}
+use Rattle.grammar.specs.Combine.{kind, is, Why, Bad, Deep, Many, Gas, Out, Done, Fail, Parser, next, after, from, ret, bad, no-more, on, want, loop, many, listed, ends}
 
--- tests of kinds: a name, a constant, a type, the first token of a declaration
+-- the kind of names
 abbrev pub aName : ℕ → Bool
 aName k = is (name []) k
 
+-- the kind of constants
 abbrev pub aConstant : ℕ → Bool
 aConstant k = is (constant 0) k
 
+-- the kinds of types
 abbrev pub aType : ℕ → Bool
 aType k = cond (is (keyword word.Int) k) true (cond (is (keyword word.Ref) k) true (is (keyword word.Q) k))
 
+-- the kinds that a declaration begins with
 abbrev pub declares : ℕ → Bool
 declares k = cond (is (keyword word.Mutable) k) true (aType k)
 
@@ -48,7 +49,7 @@ binding k =
 abbrev pub operates : ℕ → ℕ → Bool
 operates n k = eqb (binding k) n
 
--- the comparisons
+-- the kinds of comparisons
 abbrev pub compares : ℕ → Bool
 compares k =
     cond (is (mark sign.LessEqual) k) true
@@ -61,10 +62,11 @@ compares k =
 abbrev pub joining : ℕ → ℕ
 joining k = cond (is (mark sign.AndAnd) k) 1 (cond (is (mark sign.OrOr) k) 2 0)
 
+-- `&&` or `||`, whichever binds so tightly
 abbrev pub joins : ℕ → ℕ → Bool
 joins n k = eqb (joining k) n
 
--- the first token of a statement
+-- the kinds that a statement begins with
 abbrev pub begins : ℕ → Bool
 begins k =
     cond (aName k) true
@@ -131,6 +133,7 @@ abbrev pub Got : Bool → Type 0
 Got true = Thing
 Got false = Expr
 
+-- an expression as it is read
 abbrev pub got : (merged : Bool) → Expr → Got merged
 got true e = E e
 got false e = e
@@ -140,6 +143,7 @@ abbrev pub Found : Bool → Type 0
 Found true = Cond
 Found false = Thing
 
+-- a condition as it is read
 abbrev pub found : (must : Bool) → Cond → Found must
 found true c = c
 found false c = C c
@@ -330,6 +334,7 @@ numberOf n (mark m) = whyNumber n
 numberOf n end = whyNumber n
 numberOf n (trouble t) = troubleNumber t
 
+-- what an outcome of the reader comes to
 abbrev pub verdict : Out Program → Outcome
 verdict (Done p rest) = reads p
 verdict (Fail rest n) = refuses (offset rest) (numberOf n (first rest))
