@@ -9,4 +9,5 @@ pub mod Fuel
 pub mod Items
 pub mod Refusing
 pub mod Exact
+pub mod Telling
 mod Examples

@@ -3,3 +3,4 @@ pub mod Grammar
 pub mod Refusals
 pub mod Combine
 pub mod Parse
+pub mod Parentheses

@@ -1,5 +1,6 @@
-use Rattle.grammar.proofs.reading_stands.Needs as need
 use Rattle.grammar.proofs.Exact.{is-right}
+use Rattle.grammar.proofs.Telling.{parentheses-tell}
+use Rattle.grammar.proofs.reading_stands.Needs as need
 
 pub returns : need.returns
-returns c = is-right
+returns c = record { right = is-right; parentheses = parentheses-tell }
