@@ -1,0 +1,9 @@
+pub mod Steps
+pub mod Paths
+pub mod Chains
+pub mod Forms
+pub mod Lists
+pub mod Deep
+pub mod Operands
+pub mod Levels
+pub mod Conditions

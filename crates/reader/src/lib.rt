@@ -2,8 +2,10 @@
 mod code;
 mod cursor;
 mod expect;
+mod operators;
 mod refusal;
 mod terms;
 mod tokens_left;
+mod write;
 
 pub use refusal::ReadRefusal;
