@@ -7,3 +7,11 @@ pub mod Deep
 pub mod Operands
 pub mod Levels
 pub mod Conditions
+pub mod Says
+pub mod Heads
+pub mod Writes
+pub mod Turns
+pub mod Branches
+pub mod Joins
+pub mod Commas
+pub mod Programs

@@ -1,3 +1,5 @@
 pub mod Cursor
 pub mod Reading
 pub mod Terms
+pub mod Statements
+pub mod Functions

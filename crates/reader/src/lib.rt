@@ -1,11 +1,16 @@
 // Reading a script: recursive descent over the tokens of a source.
+mod blocks;
 mod code;
 mod cursor;
+mod declarators;
 mod expect;
+mod functions;
 mod operators;
 mod refusal;
+mod statements;
 mod terms;
 mod tokens_left;
 mod write;
 
 pub use refusal::ReadRefusal;
+pub use refusal::Reason;
