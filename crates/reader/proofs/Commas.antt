@@ -1,31 +1,31 @@
 -- Formals, one after another. Assumes nothing.
 use mathlib.Core.Path.{_≡_, refl, sym, ap, _∙_}
-use mathlib.Core.Bool.{Bool, true, false, cond}
+use mathlib.Core.Bool.{true, false}
 use mathlib.Core.List.{List, [], _∷_, _++_, append-nil, append-assoc}
-use Prim.Native.Nat.{ℕ, zero, suc, _+_, _-_, _*_, _≤_, _<_}
+use Prim.Native.Nat.{ℕ, zero, suc, _+_, _-_, _≤_, _<_}
 use native.Mathlib.Numerals.{sub-one}
 use native.Mathlib.Nat.{sub-zero}
 use native.Mathlib.Omega.{arith}
 use lib.ListN.{length}
 use Rattle.std.specs.declared.result.Result.{Result}
 use Rattle.std.specs.declared.result.Result.the-variants.{Ok, Err}
-use Rattle.std.specs.Of.Vec.{vec-len, vec-items, vec-cap}
+use Rattle.std.specs.Of.Vec.{vec-items}
 use Rattle.script.specs.declared.types.Declarator.{Declarator}
 use Rattle.script.specs.declared.types.Node.the-variants as node
 use Rattle.script.specs.Flat.{flatFormals}
 use Rattle.tokens.specs.declared.types.Mark.the-variants as sign
 use Rattle.tokens.specs.Spelling.{mark}
 use Rattle.grammar.specs.Tokens.{Tok}
-use Rattle.grammar.specs.Combine.{Why, Out, Done, Fail, Parser, next as go, after, ret, on, want, separated, kind-at, is}
+use Rattle.grammar.specs.Combine.{Why, Done, Fail, Parser, next as go, after, ret, on, want, separated, kind-at, is}
 use Rattle.grammar.specs.Parse.{declarator, formals}
 use Rattle.reader.specs.declared.refusal.ReadRefusal.{ReadRefusal}
 use Rattle.reader.specs.declared.cursor.Cursor.{Cursor}
 use Rattle.reader.specs.declared.code.Code.{Code}
 use Rattle.reader.specs.Cursor.{left}
-use Rattle.reader.specs.Reading.{Passed, NotPassed, NotExpected, Refused, Passes, Expects}
+use Rattle.reader.specs.Reading.{Passed, NotPassed, Refused, Passes, Expects}
 use Rattle.reader.specs.Statements.{Leads}
-use Rattle.reader.specs.Functions.{Kept, Listing, OneFormal, AllFormals, ReadsFormals}
-use Rattle.reader.proofs.Says.{on-true, on-false, passed-one, at-start, takes, leaves, stops, goes-on, breaks, wants, unwanted, fails}
+use Rattle.reader.specs.Functions.{Kept, Listing, OneFormal, ReadsFormals}
+use Rattle.reader.proofs.Says.{on-true, on-false, passed-one, at-start, takes, leaves, stops, goes-on, breaks, wants, unwanted}
 use Rattle.reader.proofs.Turns.{together, together-more, go-none, go-more}
 
 abbrev pub cons : Declarator → List Declarator → List Declarator

@@ -1,8 +1,8 @@
 -- An if and a while, by what was read and written for their parts. Assumes nothing.
-use mathlib.Core.Path.{_≡_, refl, sym, ap, _∙_}
+use mathlib.Core.Path.{_≡_, ap, _∙_}
 use mathlib.Core.Bool.{true, false}
-use mathlib.Core.List.{List, [], _∷_, _++_}
-use Prim.Native.Nat.{ℕ, suc, _+_, _-_, _*_, _≤_, _<_}
+use mathlib.Core.List.{[], _∷_, _++_}
+use Prim.Native.Nat.{ℕ, suc, _+_, _-_, _≤_}
 use native.Mathlib.Omega.{arith}
 use lib.ListN.{length}
 use Rattle.std.specs.Holes.{inserted}
@@ -18,7 +18,7 @@ use Rattle.grammar.specs.Parse.{condition, statement, tests, otherwise}
 use Rattle.reader.specs.declared.cursor.Cursor.{Cursor}
 use Rattle.reader.specs.declared.code.Code.{Code}
 use Rattle.reader.specs.Cursor.{left}
-use Rattle.reader.specs.Reading.{Moved, Passed}
+use Rattle.reader.specs.Reading.{Passed}
 use Rattle.reader.specs.Statements.{Leads, Went, Tested, flatBody}
 use Rattle.reader.proofs.Says.{takes, leaves, goes-on, passed-one}
 use Rattle.reader.proofs.Writes.{rest-long, then-code, else-code, loop-code}

@@ -15,3 +15,4 @@ pub mod Branches
 pub mod Joins
 pub mod Commas
 pub mod Programs
+pub mod Wholes

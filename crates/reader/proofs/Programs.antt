@@ -1,9 +1,9 @@
 -- Functions, one after another. Assumes nothing.
 use mathlib.Core.Path.{_≡_, refl, sym, ap, _∙_}
-use mathlib.Core.Bool.{Bool, true, false, cond}
+use mathlib.Core.Bool.{true, false}
 use mathlib.Core.List.{List, [], _∷_, _++_, append-nil, append-assoc}
-use Prim.Native.Nat.{ℕ, zero, suc, _+_, _-_, _*_, _≤_, _<_}
-use native.Mathlib.Nat.{add-assoc, add-zero}
+use Prim.Native.Nat.{ℕ, suc, _+_, _-_, _≤_, _<_}
+use native.Mathlib.Nat.{add-zero}
 use native.Mathlib.Omega.{arith}
 use lib.Dec.{eqb}
 use lib.ListN.{length, length-append}
@@ -12,9 +12,9 @@ use Rattle.script.specs.declared.types.Function.{Function}
 use Rattle.script.specs.declared.types.Declarator.{Declarator}
 use Rattle.script.specs.declared.types.Node.{Node}
 use Rattle.script.specs.declared.types.Node.the-variants as node
-use Rattle.script.specs.Tree.{Fun, Program}
+use Rattle.script.specs.Tree.{Program}
 use Rattle.script.specs.Flat.{flatFormals, flatStmts, flatFun, flatProgram, formalsOf, functionsOf}
-use Rattle.grammar.specs.Combine.{Bad, Out, Done, Fail, Parser, next as go, after, ret, many, ends, kind-at}
+use Rattle.grammar.specs.Combine.{Bad, Done, Fail, many, ends, kind-at}
 use Rattle.grammar.specs.Parse.{declarator, statements, declares, function, program}
 use Rattle.reader.specs.declared.refusal.ReadRefusal.{ReadRefusal}
 use Rattle.reader.specs.declared.cursor.Cursor.{Cursor}
@@ -24,7 +24,7 @@ use Rattle.reader.specs.Reading.{Passed, Refusal, Refused}
 use Rattle.reader.specs.Statements.{Leads, Declared, Went}
 use Rattle.reader.specs.Functions.{Kept, AllFormals, Written, OneFunction, WholeProgram}
 use Rattle.reader.proofs.Says.{at-start, goes-on, breaks, fails, passed-one}
-use Rattle.reader.proofs.Turns.{Turned, no-turn, turn, turned-all, turn-fails, together}
+use Rattle.reader.proofs.Turns.{Turned, no-turn, turn, turned-all, turn-fails}
 use Rattle.reader.proofs.Commas.{same-room, kept-both, together-self}
 
 flat-append : (xs ys : Program) → flatProgram (xs ++ ys) ≡ flatProgram xs ++ flatProgram ys

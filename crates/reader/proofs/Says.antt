@@ -1,27 +1,22 @@
 -- What readers of tokens come to at a cursor, step by step. Assumes nothing.
 use mathlib.Core.Path.{_≡_, refl, sym, ap, _∙_}
-use mathlib.Core.Bool.{Bool, true, false, cond}
-use mathlib.Core.List.{List, [], _∷_, _++_}
-use Prim.Native.Nat.{ℕ, zero, suc, _+_, _-_, _*_, _≤_, _<_}
-use native.Mathlib.Numerals.{add-one, sub-one}
+use mathlib.Core.Bool.{Bool, true, false}
+use mathlib.Core.List.{List}
+use Prim.Native.Nat.{ℕ, _+_, _-_, _≤_, _<_}
+use native.Mathlib.Numerals.{add-one}
 use native.Mathlib.Nat.{sub-zero}
 use native.Mathlib.Omega.{arith}
-use lib.Dec.{ltb, eqb}
 use lib.ListN.{length}
 use Rattle.std.proofs.shelf.Tests.{lt-ltb, le-ltb}
-use Rattle.std.specs.declared.result.Result.{Result}
-use Rattle.std.specs.declared.result.Result.the-variants.{Ok, Err}
-use Rattle.script.specs.declared.types.Node.{Node}
 use Rattle.tokens.specs.declared.types.Mark.{Mark}
 use Rattle.tokens.specs.Spelling.{Item, itemOf, mark}
-use Rattle.grammar.specs.Tokens.{Tok, offset, first}
-use Rattle.grammar.specs.Combine.{Why, Bad, Deep, Many, Out, Done, Fail, Parser, next, after, from, ret, bad, on, want, peek, many, separated, kind-at, is}
+use Rattle.grammar.specs.Tokens.{Tok}
+use Rattle.grammar.specs.Combine.{Why, Bad, Deep, Many, Done, Fail, Parser, next, after, from, bad, on, want, kind-at, is}
 use Rattle.reader.specs.declared.refusal.ReadRefusal.{ReadRefusal}
 use Rattle.reader.specs.declared.cursor.Cursor.{Cursor}
-use Rattle.reader.specs.declared.code.Code.{Code}
-use Rattle.reader.specs.Cursor.{left, after as beyond}
+use Rattle.reader.specs.Cursor.{left}
 use Rattle.reader.specs.Statements.{Leads}
-use Rattle.reader.specs.Reading.{Refusal, Passed, NotPassed, too-deep, too-many, NotExpected, stays, other, Passes, Expects, Read, Refused}
+use Rattle.reader.specs.Reading.{Refusal, Passed, NotPassed, too-deep, too-many, NotExpected, stays, other, Refused}
 
 pub passed-one : {d : ℕ} {c e : Cursor} → Passed d c e → length (left e) + 1 ≡ length (left c)
 passed-one {d} {c} {e} p = ap (λ n. n + 1) (ap length (p .rest)) ∙ add-one _

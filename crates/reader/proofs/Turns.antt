@@ -1,15 +1,14 @@
 -- A reader that is read as long as a token passes a test, turn by turn. Assumes nothing.
 use mathlib.Core.Path.{_≡_, refl, sym, ap, _∙_}
-use mathlib.Core.Bool.{Bool, true, false, cond}
+use mathlib.Core.Bool.{Bool, true, false}
 use mathlib.Core.List.{List, [], _∷_, _++_, append-nil, append-assoc}
-use Prim.Native.Nat.{ℕ, zero, suc, _+_, _-_, _*_, _≤_, _<_}
+use Prim.Native.Nat.{ℕ, zero, suc, _+_, _-_, _≤_, _<_}
 use native.Mathlib.Numerals.{sub-one}
 use native.Mathlib.Nat.{sub-zero}
 use native.Mathlib.Omega.{arith}
 use lib.ListN.{length}
-use Rattle.std.specs.Of.Vec.{vec-len, vec-items, vec-cap}
-use Rattle.script.specs.declared.types.Node.{Node}
-use Rattle.script.specs.Tree.{Stmt, Stmts, end, next}
+use Rattle.std.specs.Of.Vec.{vec-items}
+use Rattle.script.specs.Tree.{Stmt, end, next}
 use Rattle.script.specs.Flat.{flatStmt, flatStmts}
 use Rattle.grammar.specs.Tokens.{Tok}
 use Rattle.grammar.specs.Combine.{Why, Out, Done, Fail, Parser, next as go, after, ret, peek, many, kind-at}
@@ -18,7 +17,7 @@ use Rattle.reader.specs.declared.refusal.ReadRefusal.{ReadRefusal}
 use Rattle.reader.specs.declared.cursor.Cursor.{Cursor}
 use Rattle.reader.specs.declared.code.Code.{Code}
 use Rattle.reader.specs.Cursor.{left}
-use Rattle.reader.specs.Reading.{Moved, Read, Refused}
+use Rattle.reader.specs.Reading.{Moved, Refused}
 use Rattle.reader.specs.Statements.{Went, Stated}
 
 -- what was read turn by turn, put before what is read after it

@@ -1,14 +1,13 @@
 -- The code of statements, as it is written. Assumes nothing.
 use mathlib.Core.Path.{_≡_, refl, sym, ap, _∙_}
-use mathlib.Core.List.{List, [], _∷_, _++_, append-nil, append-assoc}
-use Prim.Native.Nat.{ℕ, zero, suc, _+_, _-_, _*_, _≤_, _<_}
+use mathlib.Core.List.{List, [], _∷_, _++_, append-assoc}
+use Prim.Native.Nat.{ℕ, _+_, _-_, _≤_, _<_}
 use native.Mathlib.Omega.{arith}
 use lib.ListN.{length, take, drop, length-append}
 use Rattle.std.proofs.shelf.Lists.{drop-at, take-append-le, take-all}
 use Rattle.std.specs.Holes.{inserted}
 use Rattle.std.specs.declared.result.Result.{Result}
 use Rattle.std.specs.declared.result.Result.the-variants.{Ok, Err}
-use Rattle.std.specs.Of.Vec.{vec-len, vec-items, vec-cap}
 use Rattle.script.specs.declared.types.Node.{Node}
 use Rattle.script.specs.declared.types.Node.the-variants as node
 use Rattle.script.specs.Flat.{ifThen, ifElse, looped}
@@ -17,9 +16,8 @@ use Rattle.reader.specs.declared.refusal.ReadRefusal.{ReadRefusal}
 use Rattle.reader.specs.declared.cursor.Cursor.{Cursor}
 use Rattle.reader.specs.declared.code.Code.{Code}
 use Rattle.reader.specs.Cursor.{left}
-use Rattle.reader.specs.Reading.{Moved, Passed, Refused, Read, Reads}
-use Rattle.reader.specs.Statements.{Leads, Went, Goes, States}
-use Rattle.reader.proofs.Says.{Opens, hands-on, passed-one}
+use Rattle.reader.specs.Statements.{Leads, Goes, States}
+use Rattle.reader.proofs.Says.{Opens, hands-on}
 
 -- a node before ns and one after them
 pub around : (xs : List Node) {a b c : List Node} (n m : Node) (ns : List Node) → a ≡ xs ++ (n ∷ []) → b ≡ a ++ ns → c ≡ b ++ (m ∷ []) → c ≡ xs ++ (n ∷ (ns ++ (m ∷ [])))

@@ -1,7 +1,7 @@
 -- What reading functions does. Assumes nothing.
 use mathlib.Core.Path.{_≡_}
 use mathlib.Core.List.{List, [], _∷_, _++_}
-use Prim.Native.Nat.{ℕ, suc, _+_, _-_, _*_, _≤_, _<_}
+use Prim.Native.Nat.{ℕ, _+_, _-_, _*_, _≤_, _<_}
 use lib.ListN.{length}
 use Rattle.std.specs.declared.result.Result.{Result}
 use Rattle.std.specs.declared.result.Result.the-variants.{Ok, Err}
@@ -9,8 +9,7 @@ use Rattle.std.specs.Of.Vec.{vec-len, vec-items, vec-cap}
 use Rattle.script.specs.declared.types.Declarator.{Declarator}
 use Rattle.script.specs.Tree.{Fun, Program}
 use Rattle.script.specs.Flat.{flatFormals, flatProgram, formalsOf, functionsOf}
-use Rattle.grammar.specs.Tokens.{Tok}
-use Rattle.grammar.specs.Combine.{Out, Done, Fail, Parser}
+use Rattle.grammar.specs.Combine.{Done}
 use Rattle.grammar.specs.Parse.{declarator, formals, function, program}
 use Rattle.reader.specs.declared.refusal.ReadRefusal.{ReadRefusal}
 use Rattle.reader.specs.declared.cursor.Cursor.{Cursor}

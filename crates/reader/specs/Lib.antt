@@ -3,3 +3,5 @@ pub mod Reading
 pub mod Terms
 pub mod Statements
 pub mod Functions
+pub mod Whole
+pub mod Script

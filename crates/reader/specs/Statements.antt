@@ -1,6 +1,6 @@
 -- What reading statements does. Assumes nothing.
 use mathlib.Core.Path.{_≡_}
-use mathlib.Core.Bool.{Bool, true, false}
+use mathlib.Core.Bool.{true, false}
 use mathlib.Core.List.{List, [], _∷_, _++_}
 use Prim.Native.Nat.{ℕ, suc, _+_, _-_, _*_, _≤_, _<_}
 use lib.ListN.{length}
@@ -13,12 +13,11 @@ use Rattle.script.specs.declared.types.«Type».{«Type» as Ty}
 use Rattle.script.specs.declared.types.Declarator.{Declarator}
 use Rattle.script.specs.declared.types.Node.{Node}
 use Rattle.script.specs.declared.types.Node.the-variants.{Begin}
-use Rattle.script.specs.Tree.{Expr, Cond, Stmt, Stmts}
-use Rattle.script.specs.Flat.{flat, flatCond, flatStmt, flatStmts, scoped}
-use Rattle.tokens.specs.Spelling.{symbolOf, itemOf}
-use Rattle.grammar.specs.Tokens.{Tok, offset, first}
-use Rattle.grammar.specs.Combine.{Out, Done, Fail, Parser, after, kind-at}
-use Rattle.grammar.specs.Parse.{aType, typeOf, declarator, expression, condition, ended, tests}
+use Rattle.script.specs.Tree.{Expr, Cond, Stmt}
+use Rattle.script.specs.Flat.{flat, flatCond, flatStmt, scoped}
+use Rattle.grammar.specs.Tokens.{Tok, first}
+use Rattle.grammar.specs.Combine.{Done, Parser, after, kind-at}
+use Rattle.grammar.specs.Parse.{aType, typeOf, expression, condition, ended, tests}
 use Rattle.reader.specs.declared.refusal.ReadRefusal.{ReadRefusal}
 use Rattle.reader.specs.declared.cursor.Cursor.{Cursor}
 use Rattle.reader.specs.declared.code.Code.{Code}

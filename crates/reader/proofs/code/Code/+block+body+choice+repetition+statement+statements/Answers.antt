@@ -1,21 +1,19 @@
-use mathlib.Core.Path.{_≡_, refl, sym, ap, subst, _∙_}
-use mathlib.Core.Bool.{true, false}
-use mathlib.Core.List.{List, [], _∷_, _++_, append-assoc}
-use Prim.Native.Nat.{ℕ, suc, _+_, _-_, _*_, _≤_, _<_}
+use mathlib.Core.Path.{refl, sym, ap, subst, _∙_}
+use mathlib.Core.List.{[], _∷_, _++_, append-assoc}
+use Prim.Native.Nat.{suc, _+_, _-_}
 use native.Mathlib.Numerals.{add-one}
 use native.Mathlib.Omega.{arith}
-use lib.ListN.{length}
 use Rattle.std.proofs.shelf.Results.{err-from-errBy}
-use Rattle.std.specs.Of.Vec.{vec-items, vec-len}
+use Rattle.std.specs.Of.Vec.{vec-items}
 use Rattle.script.specs.declared.types.Node.the-variants as node
 use Rattle.script.specs.Tree as tree
-use Rattle.script.specs.Flat.{flatCond, flatStmt, flatStmts}
+use Rattle.script.specs.Flat.{flatStmt, flatStmts}
 use Rattle.tokens.specs.declared.types.Mark.the-variants as sign
 use Rattle.grammar.specs.Combine.{after, ret, want}
-use Rattle.grammar.specs.Parse.{aName, expression, condition, assignment, statement, statements, tests, otherwise}
+use Rattle.grammar.specs.Parse.{expression, assignment, statement, statements, otherwise}
 use Rattle.reader.specs.Cursor.{left}
 use Rattle.reader.specs.Statements.{Goes}
-use Rattle.reader.proofs.Says.{at-start, takes, leaves, stops, goes-on, breaks, wants, unwanted, passed-one}
+use Rattle.reader.proofs.Says.{at-start, takes, stops, goes-on, breaks, wants, unwanted, passed-one}
 use Rattle.reader.proofs.Writes.{around, reads-on, opens-reads}
 use Rattle.reader.proofs.Joins.{chose-then, chose-else, repeated}
 use Rattle.reader.proofs.Turns.{listed-none, listed-more, listed-all, turn-fails}

@@ -1,10 +1,6 @@
-use mathlib.Core.Path.{_≡_, refl, sym, ap, _∙_}
-use mathlib.Core.List.{List, [], _∷_, _++_}
-use Prim.Native.Nat.{ℕ, _+_, _-_, _*_, _≤_, _<_}
-use native.Mathlib.Omega.{arith}
+use mathlib.Core.Path.{sym, _∙_}
+use Prim.Native.Nat.{_-_}
 use Rattle.std.proofs.shelf.Results.{err-from-errBy}
-use Rattle.grammar.specs.Parse.{formals}
-use Rattle.reader.proofs.Says.{at-start, takes, stops}
 use Rattle.reader.proofs.Commas.{parted-none, parted-more, parted-stops, parted-fails, formals-fail, formals-end, formals-none}
 use Rattle.reader.proofs.code.Code.formals_after.Needs as need
 

@@ -1,11 +1,10 @@
-use mathlib.Core.Path.{_≡_, refl, sym, ap, _∙_}
-use mathlib.Core.List.{List, [], _∷_, _++_}
-use Prim.Native.Nat.{ℕ, _+_, _-_, _*_, _≤_, _<_}
+use mathlib.Core.Path.{refl, ap}
+use Prim.Native.Nat.{_-_}
 use native.Mathlib.Omega.{arith}
 use Rattle.std.proofs.shelf.Results.{err-from-errBy}
 use Rattle.tokens.specs.declared.types.Mark.the-variants as sign
 use Rattle.grammar.specs.Parse.{function}
-use Rattle.reader.proofs.Says.{at-start, takes, goes-on, breaks, wants, unwanted, unexpected, passed-one}
+use Rattle.reader.proofs.Says.{at-start, takes, goes-on, breaks, wants, unwanted, unexpected}
 use Rattle.reader.proofs.Programs.{function-written, function-shorter, function-some}
 use Rattle.reader.proofs.code.Code.function.Needs as need
 

@@ -1,7 +1,5 @@
-use mathlib.Core.Path.{_≡_, refl, sym, ap, _∙_}
-use mathlib.Core.List.{List, [], _∷_, _++_}
-use Prim.Native.Nat.{ℕ, _+_, _-_, _*_, _≤_, _<_}
-use native.Mathlib.Omega.{arith}
+use mathlib.Core.Path.{sym, _∙_}
+use Prim.Native.Nat.{_-_}
 use Rattle.std.proofs.shelf.Results.{err-from-errBy}
 use Rattle.reader.proofs.Programs.{programmed-none, programmed-more, programmed-fails, programmed-all, programmed-bad}
 use Rattle.reader.proofs.code.Code.program.Needs as need

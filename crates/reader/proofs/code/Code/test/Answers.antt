@@ -1,19 +1,15 @@
-use mathlib.Core.Path.{_≡_, refl, sym, ap, subst, _∙_}
+use mathlib.Core.Path.{ap, _∙_}
 use mathlib.Core.Bool.{true}
-use mathlib.Core.List.{List, [], _∷_, _++_, append-assoc}
-use Prim.Native.Nat.{ℕ, suc, _+_, _-_, _*_, _≤_, _<_}
+use mathlib.Core.List.{_++_, append-assoc}
+use Prim.Native.Nat.{suc, _+_, _-_}
 use native.Mathlib.Numerals.{add-one}
 use native.Mathlib.Omega.{arith}
 use Rattle.std.proofs.shelf.Results.{err-from-errBy}
 use Rattle.std.specs.Of.Vec.{vec-items}
-use Rattle.script.specs.declared.types.Node.the-variants as node
-use Rattle.script.specs.Tree as tree
-use Rattle.script.specs.Flat.{flat, flats, flatCond, flatStmt}
+use Rattle.script.specs.Flat.{flatCond}
 use Rattle.tokens.specs.declared.types.Mark.the-variants as sign
-use Rattle.grammar.specs.Parse.{expression, condition, declaration, assignment, tests}
-use Rattle.reader.specs.Reading.{Reads}
-use Rattle.reader.proofs.Says.{at-start, takes, leaves, stops, goes-on, breaks, goes-from, breaks-from, wants, unwanted, passed-one}
-use Rattle.reader.proofs.Writes.{around, reads-on, goes-further}
+use Rattle.grammar.specs.Parse.{condition, tests}
+use Rattle.reader.proofs.Says.{at-start, goes-on, breaks, wants, unwanted, passed-one}
 use Rattle.reader.proofs.code.Code.test.Needs as need
 
 pub returns-in-Break-expect : need.returns-in-Break-expect

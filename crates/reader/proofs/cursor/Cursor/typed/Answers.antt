@@ -1,12 +1,10 @@
-use mathlib.Core.Path.{_≡_, refl, sym, ap, subst, _∙_}
-use mathlib.Core.Bool.{true, false}
-use Prim.Native.Nat.{ℕ, suc}
+use mathlib.Core.Path.{sym, _∙_}
+use Prim.Native.Nat.{suc}
 use lib.ListN.{length}
 use native.Mathlib.Omega.{arith}
 use Rattle.std.proofs.shelf.Results.{err-from-errBy}
 use Rattle.grammar.specs.Combine.{Done}
 use Rattle.grammar.specs.Parse.{typed}
-use Rattle.script.specs.declared.types.Declarator.{Declarator}
 use Rattle.reader.specs.Cursor.{left}
 use Rattle.reader.proofs.Says.{at-start, takes, leaves, stops, refuses, passed-one}
 use Rattle.reader.proofs.cursor.Cursor.typed.Needs as need
