@@ -1,0 +1,3 @@
+// Tests of reading on examples.
+#[cfg(test)]
+mod tests;
