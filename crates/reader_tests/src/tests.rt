@@ -225,9 +225,10 @@ fn refusals(rt: LibcRuntime) -> Result<(), Fail> {
     check_read(heap, b"int f() { \xff", "2 at 10").note("a byte above 127")
 }
 
-// So many times the front, then the middle, then so many times the back.
-fn nested(heap: Global, count: usize, front: &str, middle: &str, back: &str) -> Result<String, AllocError> {
+// A body: what it begins with, so many times the front, the middle, and so many times the back.
+fn nested(heap: Global, begin: &str, count: usize, front: &str, middle: &str, back: &str) -> Result<String, AllocError> {
     let mut text = String::from_str(heap, "int main(int a) { ")?;
+    text.push_str(begin)?;
     for _ in 0..count {
         text.push_str(front)?;
     }
@@ -262,18 +263,47 @@ fn limits(rt: LibcRuntime) -> Result<(), Fail> {
         (63, "if (a < 1) ", "return a;", "", "read"),
         (64, "if (a < 1) ", "return a;", "", "5 at 715"),
         (63, "while (a < 1) ", "return a;", "", "read"),
+        (64, "while (a < 1) ", "return a;", "", "5 at 907"),
+        (63, "if (a < 1) a = 1; else ", "return a;", "", "read"),
+        (64, "if (a < 1) a = 1; else ", "return a;", "", "5 at 1471"),
+        (32, "{ while (a < 1) ", "return a;", "}", "5 at 523"),
         (1018, "{ } ", "return a;", "", "read"),
         (1019, "{ } ", "return a;", "", "6 at 4104"),
         (1019, "{ } ", "return a @", "", "2 at 4103"),
         (1020, "{ } ", "return a;", "", "6 at 4105"),
     ];
     for (count, front, middle, back, verdict) in rows {
-        let source = nested(heap, count, front, middle, back)?;
+        let source = nested(heap, "", count, front, middle, back)?;
         check_verdict(heap, source.as_bytes(), verdict).note(format_args!("{count} times {front:?} and {middle:?}"))?;
     }
     let long = vec![in heap; b' '; 8193]?;
     check_read(heap, &long, "1 at 8192").note("8,193 blanks")?;
     check_read(heap, &long[0..8192], "").note("8,192 blanks")
+}
+
+// Parentheses, prefixes and casts inside a return, and inside a condition.
+#[test]
+fn deep_expressions(rt: LibcRuntime) -> Result<(), Fail> {
+    let heap = rt.alloc();
+    let rows = [
+        ("return ", 63, "(", "a", ")", "read"),
+        ("return ", 64, "(", "a", ")", "5 at 89"),
+        ("return ", 63, "-", "a", "", "read"),
+        ("return ", 64, "-", "a", "", "5 at 89"),
+        ("return ", 63, "(int)", "a", "", "read"),
+        ("return ", 64, "(int)", "a", "", "5 at 345"),
+        ("return ", 63, "f(", "a", ")", "read"),
+        ("return ", 64, "f(", "a", ")", "5 at 153"),
+        ("return ", 32, "-(", "a", ")", "5 at 89"),
+        ("return ", 31, "(int)(", "a", ")", "read"),
+    ];
+    for (begin, count, front, middle, back, verdict) in rows {
+        let mut source = nested(heap, begin, count, front, middle, back)?;
+        let _ = source.pop();
+        source.push_str(";}")?;
+        check_verdict(heap, source.as_bytes(), verdict).note(format_args!("{count} times {front:?}"))?;
+    }
+    Ok(())
 }
 
 // A refused read leaves the script of an empty source.
