@@ -100,7 +100,7 @@ impl Code {
             cursor.take(depth)?;
             cursor.expect(Mark::RightParen, depth)?;
             self.push(Node::Begin { at });
-            self.operand(cursor, depth + 1, false)?;
+            self.operand(cursor, depth + 1, false)?; // a cast takes one operand, as a prefix does
             self.push(Node::Cast { at, to });
             return Ok(Thing::Expression);
         }
