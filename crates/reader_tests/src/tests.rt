@@ -271,6 +271,9 @@ fn limits(rt: LibcRuntime) -> Result<(), Fail> {
         (1019, "{ } ", "return a;", "", "6 at 4104"),
         (1019, "{ } ", "return a @", "", "2 at 4103"),
         (1020, "{ } ", "return a;", "", "6 at 4105"),
+        (1019, "{ } ", "return a; +", "", "4 at 4104"),
+        (1020, "{ } ", "return 9223372036854775808;", "", "3 at 4105"),
+        (988, "{ } ", "return ((((((((((((((((((((((((((((((((((((((((((((((((((((((((((((((((a", "", "5 at 4041"),
     ];
     for (count, front, middle, back, verdict) in rows {
         let source = nested(heap, "", count, front, middle, back)?;
