@@ -284,7 +284,7 @@ fn limits(rt: LibcRuntime) -> Result<(), Fail> {
     check_read(heap, &long[0..8192], "").note("8,192 blanks")
 }
 
-// Parentheses, prefixes and casts inside a return, and inside a condition.
+// Parentheses, prefixes, casts and calls inside a return.
 #[test]
 fn deep_expressions(rt: LibcRuntime) -> Result<(), Fail> {
     let heap = rt.alloc();
@@ -305,6 +305,23 @@ fn deep_expressions(rt: LibcRuntime) -> Result<(), Fail> {
         let _ = source.pop();
         source.push_str(";}")?;
         check_verdict(heap, source.as_bytes(), verdict).note(format_args!("{count} times {front:?}"))?;
+    }
+    Ok(())
+}
+
+// Negations and parentheses inside a condition, whose own parenthesis counts too.
+#[test]
+fn deep_conditions(rt: LibcRuntime) -> Result<(), Fail> {
+    let heap = rt.alloc();
+    let rows = [
+        (62, "!", "a < 1) return 1;", "", "read"),
+        (63, "!", "a < 1) return 1;", "", "5 at 85"),
+        (62, "(", "a < 1", ")", "4 at 152"),
+        (63, "(", "a < 1", ")", "5 at 85"),
+    ];
+    for (count, front, middle, back, verdict) in rows {
+        let source = nested(heap, "if (", count, front, middle, back)?;
+        check_verdict(heap, source.as_bytes(), verdict).note(format_args!("{count} times {front:?} and {middle:?}"))?;
     }
     Ok(())
 }
