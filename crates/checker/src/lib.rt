@@ -1,4 +1,6 @@
 // Checking a script: the static rules, the first fault, and the code that a run goes through.
+#![tactic(auto)]
+
 ghost use Rattle.checker.specs.Whole.{ScanJudges};
 
 mod calls;

@@ -1,4 +1,6 @@
 // A heap that counts the slots that name each place, and frees a place once nothing keeps it.
+#![tactic(auto)]
+
 mod cell;
 mod counting_heap;
 mod store;

@@ -1,4 +1,6 @@
 // The grammar, and what is proved of reading by it.
+#![tactic(auto)]
+
 ghost use Rattle.grammar.specs.Parse.{outcome};
 ghost use Rattle.grammar.specs.Refusals.{Right};
 ghost use Rattle.grammar.specs.Parentheses.{ParenthesesTell};

@@ -1,4 +1,6 @@
 // The heap of two-slot cells that scripts build: what every heap promises, and code that is proved over all of them.
+#![tactic(auto)]
+
 mod interface;
 mod kinds;
 mod numbers;

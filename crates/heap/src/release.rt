@@ -9,7 +9,7 @@ use crate::types::{HeapRefusal, Value};
 pub fn let_all_go<H: Heap>(heap: &mut H, values: &mut Vec<Value>) -> Result<(), HeapRefusal>
     ensures empty { values.new.items ≡ [] }
     ensures capacity { vec_capacity values.new ≡ vec_capacity values.old }
-    ensures releases { Releases rule (model heap.old) (reverse values.old.items) result (model heap.new) }
+    ensures releases { Releases H.rule (H.model heap.old) (reverse values.old.items) result (H.model heap.new) }
 {
     let mut first = Ok(());
     while let Some(value) = values.pop() {

@@ -1,4 +1,6 @@
 // Every heap is put to the same tests.
+#![tactic(auto)]
+
 #[cfg(test)]
 mod any_heap;
 #[cfg(test)]

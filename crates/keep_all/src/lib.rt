@@ -1,4 +1,6 @@
 // A heap that frees nothing: a place that is taken stays taken.
+#![tactic(auto)]
+
 mod cell;
 mod kept;
 

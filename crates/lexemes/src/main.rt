@@ -1,4 +1,6 @@
 // Lists the tokens of a script: one line for each, and last the script's end or why it is refused.
+#![tactic(auto)]
+
 mod lines;
 mod refusal;
 

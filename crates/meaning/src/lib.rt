@@ -1,4 +1,5 @@
 // What a run is.
+#![tactic(auto)]
 
 pub fn placeholder() -> u8 {
     0

@@ -1,4 +1,6 @@
 // Prints what a script is made of: its functions with their formals, and their statements, each with its offset; or why it is not read.
+#![tactic(auto)]
+
 mod outline;
 mod refusal;
 

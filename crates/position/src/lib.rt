@@ -1,4 +1,6 @@
 // The line and the column of an offset, both counted from 1; a column counts bytes.
+#![tactic(auto)]
+
 ghost use Rattle.std.specs.Prelude.{◌≡◌, ◌+◌, ◌-◌, ◌^◌, min, take};
 ghost use Rattle.position.specs.Lines.{breaks, since_break};
 

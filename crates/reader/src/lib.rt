@@ -1,4 +1,6 @@
 // Reading a script: recursive descent over the tokens of a source.
+#![tactic(auto)]
+
 mod blocks;
 mod code;
 mod cursor;

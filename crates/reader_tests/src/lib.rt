@@ -1,3 +1,5 @@
 // Tests of reading on examples.
+#![tactic(auto)]
+
 #[cfg(test)]
 mod tests;

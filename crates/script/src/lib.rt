@@ -1,4 +1,6 @@
 // The flat code of a script, which reader, checker and run share.
+#![tactic(auto)]
+
 ghost use Rattle.script.specs.Laws.{FlatLosesNothing};
 
 mod types;

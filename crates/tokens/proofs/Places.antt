@@ -2,7 +2,7 @@
 use Rattle.std.proofs.Common.{◌≡◌, ℕ, zero, suc, ◌+◌, ◌-◌, ◌<◌, ◌≤◌, Bool, true, false, cond, ◌⊎◌, List, [], ◌∷◌, length, get_or, take, drop, Option, sym, refl, ap, ◌∙◌, inl, inr, arith, length-drop, length-take-le}
 use Rattle.std.proofs.lemmas.List.{drop_more, drop_all, drop-drop}
 use Rattle.std.proofs.lemmas.Bool.{cases_lt, cond-true, cond-false, both_ways}
-use Rattle.bytes.specs.Classes.{class_of}
+use Rattle.byte_class.specs.Classes.{class_of}
 use Rattle.tokens.specs.declared.types.Ahead.{Ahead}
 use Rattle.tokens.specs.declared.types.Ahead.TheVariants.{Gap, Found, Stop}
 use Rattle.tokens.specs.declared.lexer.Lexer.{Lexer}

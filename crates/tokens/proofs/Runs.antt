@@ -3,9 +3,9 @@ use Rattle.std.proofs.Common.{◌≡◌, ℕ, zero, suc, ◌+◌, ◌-◌, ◌*�
 use Rattle.std.specs.Str.{bytes_eq}
 use Rattle.std.proofs.lemmas.List.{drop_more, drop_all}
 use Rattle.std.proofs.lemmas.Bool.{cases_Bool, cond-true, cond-false, le-leb, lt-leb}
-use Rattle.bytes.specs.Classes.{class_of, letter, digit}
-use Rattle.bytes.proofs.Says.{letter_class, digit_class}
-use Rattle.bytes.specs.declared.Class.TheVariants.{Letter, Digit}
+use Rattle.byte_class.specs.Classes.{class_of, letter, digit}
+use Rattle.byte_class.proofs.Says.{letter_class, digit_class}
+use Rattle.byte_class.specs.declared.Class.TheVariants.{Letter, Digit}
 use Rattle.tokens.specs.declared.types.Keyword.{Keyword}
 use Rattle.tokens.specs.Spelling.{wordy, reading, reading_from, keyword_text}
 use Rattle.tokens.specs.Lexing.{largest}

@@ -5,10 +5,10 @@ use Rattle.std.specs.Str.{bytes_eq}
 use Rattle.std.proofs.lemmas.Bool.{cond_both, cond-true}
 use Rattle.std.proofs.lemmas.Slice.Eq.{bytes_eq-Decides}
 use Rattle.std.proofs.lemmas.List.{append_assoc, nil_from_length}
-use Rattle.bytes.specs.Classes.{class_of, letter, digit}
-use Rattle.bytes.specs.declared.Class.{Class}
-use Rattle.bytes.specs.declared.Class.TheVariants as class
-use Rattle.bytes.proofs.Says.{letter_class, digit_class}
+use Rattle.byte_class.specs.Classes.{class_of, letter, digit}
+use Rattle.byte_class.specs.declared.Class.{Class}
+use Rattle.byte_class.specs.declared.Class.TheVariants as class
+use Rattle.byte_class.proofs.Says.{letter_class, digit_class}
 use Rattle.tokens.specs.declared.types.Keyword.{Keyword}
 use Rattle.tokens.specs.declared.types.Keyword.TheVariants.{Mutable, Int, Ref, Q, If, Else, While, Free, Print, Return, Nil}
 use Rattle.tokens.specs.declared.types.Mark.{Mark}

@@ -2,10 +2,10 @@
 use Rattle.std.proofs.Common.{◌≡◌, ℕ, true, false, ◌⊎◌, List, [], ◌∷◌, ◌++◌, length, take, drop, Some, None, codes, Option, sym, refl, ap, ◌∙◌, subst, inl, inr, ⊎_elim, arith, length-append, take-append-drop}
 use Rattle.std.proofs.lemmas.Bool.{cond_both, cond-true, cond-false, both_ways, eq-eqb}
 use Rattle.std.proofs.lemmas.List.{append-nil, nil_from_length}
-use Rattle.bytes.specs.Classes.{class_of, letter, digit, blank}
-use Rattle.bytes.specs.declared.Class.{Class}
-use Rattle.bytes.specs.declared.Class.TheVariants as class
-use Rattle.bytes.proofs.Says.{Says, class_says, letter_class, digit_class, blank_class}
+use Rattle.byte_class.specs.Classes.{class_of, letter, digit, blank}
+use Rattle.byte_class.specs.declared.Class.{Class}
+use Rattle.byte_class.specs.declared.Class.TheVariants as class
+use Rattle.byte_class.proofs.Says.{Says, class_says, letter_class, digit_class, blank_class}
 use Rattle.tokens.specs.declared.types.Keyword.{Keyword}
 use Rattle.tokens.specs.declared.types.Mark.{Mark}
 use Rattle.tokens.specs.declared.types.Mark.TheVariants.{LeftParen, RightParen, LeftBrace, RightBrace, Comma, Semicolon, Assign, Plus, Minus, Star, Dot, Less, Greater, LessEqual, GreaterEqual, EqualEqual, NotEqual, Not, AndAnd, OrOr}

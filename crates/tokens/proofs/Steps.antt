@@ -1,9 +1,9 @@
 -- What one turn of the scan does: how far it goes, and the items that it leaves. Assumes nothing.
 use Rattle.std.proofs.Common.{◌≡◌, ℕ, zero, suc, ◌+◌, ◌<◌, ◌≤◌, Bool, true, false, cond, ◌&&◌, eqb, List, [], ◌∷◌, length, take, drop, Some, None, Option, sym, refl, ap, ◌∙◌, subst, arith, length-drop, length-take}
 use Rattle.std.proofs.lemmas.Bool.{cond_both, and_parts}
-use Rattle.bytes.specs.Classes.{class_of, digit}
-use Rattle.bytes.specs.declared.Class.{Class}
-use Rattle.bytes.specs.declared.Class.TheVariants as class
+use Rattle.byte_class.specs.Classes.{class_of, digit}
+use Rattle.byte_class.specs.declared.Class.{Class}
+use Rattle.byte_class.specs.declared.Class.TheVariants as class
 use Rattle.tokens.specs.declared.types.Keyword.{Keyword}
 use Rattle.tokens.specs.declared.types.Mark.{Mark}
 use Rattle.tokens.specs.Spelling.{Symbol, Item, item, wordy}

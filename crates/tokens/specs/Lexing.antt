@@ -1,6 +1,6 @@
 -- Which items a source has: the rules of tokens, blanks and comments. Assumes nothing.
 use Rattle.std.specs.Prelude.{◌≡◌, ℕ, ◌+◌, ◌<◌, ◌≤◌, true, false, List, [], ◌∷◌, ◌++◌, length, codes, ◌≢◌}
-use Rattle.bytes.specs.Classes.{blank}
+use Rattle.byte_class.specs.Classes.{blank}
 use Rattle.tokens.specs.declared.types.Trouble.TheVariants.{NoToken, OpenComment, LargeConstant}
 use Rattle.tokens.specs.Spelling.{Symbol, constant, end, trouble, Item, item, Spells}
 

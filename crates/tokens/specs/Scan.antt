@@ -1,9 +1,9 @@
 -- The items of a source, computed. Assumes nothing.
 use Rattle.std.specs.Prelude.{◌≡◌, ℕ, zero, suc, ◌+◌, ◌-◌, ◌≤◌, Bool, true, false, cond, ◌&&◌, List, [], ◌∷◌, ◌++◌, length, take, drop, Some, None, Option, ◌==◌, nat_le}
 use Rattle.std.specs.Str.{bytes_eq}
-use Rattle.bytes.specs.Classes.{class_of, digit}
-use Rattle.bytes.specs.declared.Class.{Class}
-use Rattle.bytes.specs.declared.Class.TheVariants as class
+use Rattle.byte_class.specs.Classes.{class_of, digit}
+use Rattle.byte_class.specs.declared.Class.{Class}
+use Rattle.byte_class.specs.declared.Class.TheVariants as class
 use Rattle.tokens.specs.declared.types.Keyword.{Keyword}
 use Rattle.tokens.specs.declared.types.Keyword.TheVariants.{Mutable, Int, Ref, Q, If, Else, While, Free, Print, Return, Nil}
 use Rattle.tokens.specs.declared.types.Mark.{Mark}

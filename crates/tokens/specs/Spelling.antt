@@ -1,6 +1,6 @@
 -- How tokens are spelled. Assumes nothing.
 use Rattle.std.specs.Prelude.{◌≡◌, ℕ, ◌+◌, ◌-◌, ◌*◌, Bool, true, false, cond, List, [], ◌∷◌, codes, ◌≢◌}
-use Rattle.bytes.specs.Classes.{letter, digit}
+use Rattle.byte_class.specs.Classes.{letter, digit}
 use Rattle.tokens.specs.declared.types.Keyword.{Keyword}
 use Rattle.tokens.specs.declared.types.Keyword.TheVariants.{Mutable, Int, Ref, Q, If, Else, While, Free, Print, Return, Nil}
 use Rattle.tokens.specs.declared.types.Mark.{Mark}

@@ -1,6 +1,6 @@
 // Taking tokens one by one.
 ghost use Rattle.std.specs.Prelude.{◌≡◌, ◌∷◌, take};
-ghost use Rattle.bytes.specs.Classes.{digit};
+ghost use Rattle.byte_class.specs.Classes.{digit};
 ghost use Rattle.tokens.specs.Spelling.{wordy, symbol_of};
 ghost use Rattle.tokens.specs.Scan.{run, starts, word, number, comment, one, one_or_two, two, front_by, front, final};
 ghost use Rattle.tokens.specs.State.{front_of, rest, here, beyond, Inside, Advances, Took};
@@ -8,7 +8,7 @@ ghost use Rattle.tokens.specs.State.{front_of, rest, here, beyond, Inside, Advan
 use crate::lexer::Lexer;
 use crate::types::{Ahead, Mark, Placed, Run, Token, Trouble};
 use crate::words::{body_len, keyword_of, run_len, value_of};
-use bytes::{Class, class_at};
+use byte_class::{Class, class_at};
 
 impl Token<'_> {
     // Nothing comes after the end of the source or a trouble.

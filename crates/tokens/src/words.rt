@@ -1,12 +1,12 @@
 // The parts of a token that are longer than a mark: words, constants, and the comments between tokens.
 ghost use Rattle.std.specs.Prelude.{◌≡◌, ◌+◌, ◌≤◌, length, drop, IfSome};
 ghost use Rattle.std.specs.Str.{bytes_eq};
-ghost use Rattle.bytes.specs.Classes.{digit};
+ghost use Rattle.byte_class.specs.Classes.{digit};
 ghost use Rattle.tokens.specs.Spelling.{wordy};
 ghost use Rattle.tokens.specs.Scan.{taking, run, keyword_of, value_of, closing};
 
 use crate::types::{Keyword, Run};
-use bytes::{Class, class_at};
+use byte_class::{Class, class_at};
 
 const LARGEST: u128 = 9223372036854775807;
 

@@ -1,5 +1,5 @@
 // Each source of a table is lexed, and what its items are is compared as text: kind, spelling and offset of each.
-use bytes::{class_at, class_by_formula};
+use byte_class::{class_at, class_by_formula};
 use position::{Position, position_of};
 use std::alloc::{AllocError, Global};
 use std::process::Abort;

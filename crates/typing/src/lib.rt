@@ -1,4 +1,6 @@
 // The pieces that checking is made of: names, types and faults, each against its definition.
+#![tactic(auto)]
+
 mod calls;
 mod faults;
 mod fits;

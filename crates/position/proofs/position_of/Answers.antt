@@ -23,6 +23,6 @@ returns c =
     let end : c.loop-i.i ≡ min c.args.offset (length c.args.source.now) = omega arith in
     let whole = take_up_to c.args.offset c.loop-i.i c.args.source.now end in
     record {
-      line = c.saturating-add.ensures ∙ ap (λ n. min (n + 1) 18446744073709551615) (c.loop-i.invariant.2 ∙ ap breaks whole);
-      column = c.saturating-add-2.ensures ∙ ap (λ n. min (n + 1) 18446744073709551615) (c.loop-i.invariant.3 ∙ ap (since_break 0) whole);
+      line = c.saturating_add.ensures ∙ ap (λ n. min (n + 1) 18446744073709551615) (c.loop-i.invariant.2 ∙ ap breaks whole);
+      column = c.saturating_add-2.ensures ∙ ap (λ n. min (n + 1) 18446744073709551615) (c.loop-i.invariant.3 ∙ ap (since_break 0) whole);
     }

@@ -2,9 +2,9 @@
 use Rattle.std.proofs.Common.{◌≡◌, ℕ, true, false, eqb, List, [], ◌∷◌, ◌∙◌, arith}
 use Rattle.std.proofs.lemmas.Bool.{cond_both, cond-true, cond-false, eqb-true}
 use Rattle.std.proofs.lemmas.Bool.Decides.{nat_tests}
-use Rattle.bytes.specs.declared.Class.{Class}
-use Rattle.bytes.specs.declared.Class.TheVariants.{Letter, Digit, Blank, LeftParen, RightParen, LeftBrace, RightBrace, Comma, Semicolon, Equals, Plus, Minus, Star, Dot, Less, Greater, Bang, Ampersand, Pipe, Slash, Other}
-use Rattle.bytes.specs.Classes.{letter, digit, blank, byte_of, marks, mark_of, class_of}
+use Rattle.byte_class.specs.declared.Class.{Class}
+use Rattle.byte_class.specs.declared.Class.TheVariants.{Letter, Digit, Blank, LeftParen, RightParen, LeftBrace, RightBrace, Comma, Semicolon, Equals, Plus, Minus, Star, Dot, Less, Greater, Bang, Ampersand, Pipe, Slash, Other}
+use Rattle.byte_class.specs.Classes.{letter, digit, blank, byte_of, marks, mark_of, class_of}
 
 abbrev pub Says : Class → ℕ → Type 0
 Says Letter b = letter b ≡ true

@@ -1,6 +1,6 @@
 -- The table's rule, computed at each of its 256 entries. Assumes nothing.
 use Rattle.std.proofs.Common.{◌≡◌, ℕ, zero, suc, ◌+◌, ◌<◌, List, [], ◌∷◌, get_or, sym, ap, ◌∙◌, le_of_suc-le-suc, not-suc-le-zero, add-zero, add-suc, suc-add, zero-add}
-use Rattle.bytes.specs.Classes.{class_of, number_of}
+use Rattle.byte_class.specs.Classes.{class_of, number_of}
 
 -- f at n places, counted from i
 abbrev pub row : {X : Type 0} → (ℕ → X) → ℕ → ℕ → List X

@@ -1,7 +1,7 @@
 -- The class of a byte, as a formula over its value. Assumes nothing.
 use Rattle.std.specs.Prelude.{ℕ, Bool, true, false, cond, List, [], ◌∷◌, codes, ◌==◌, nat_le, slice_index}
-use Rattle.bytes.specs.declared.Class.{Class}
-use Rattle.bytes.specs.declared.Class.TheVariants.{Letter, Digit, Blank, LeftParen, RightParen, LeftBrace, RightBrace, Comma, Semicolon, Equals, Plus, Minus, Star, Dot, Less, Greater, Bang, Ampersand, Pipe, Slash, Other}
+use Rattle.byte_class.specs.declared.Class.{Class}
+use Rattle.byte_class.specs.declared.Class.TheVariants.{Letter, Digit, Blank, LeftParen, RightParen, LeftBrace, RightBrace, Comma, Semicolon, Equals, Plus, Minus, Star, Dot, Less, Greater, Bang, Ampersand, Pipe, Slash, Other}
 
 -- lo to hi, both included
 abbrev pub within : ℕ → ℕ → ℕ → Bool

@@ -1,6 +1,8 @@
 // The class of a byte: by a table of 256 entries, which the lexer looks up, and by the formula that the table follows.
+#![tactic(auto)]
+
 ghost use Rattle.std.specs.Prelude.{◌≡◌};
-ghost use Rattle.bytes.specs.Classes.{class_of, number_of};
+ghost use Rattle.byte_class.specs.Classes.{class_of, number_of};
 
 #[derive(Clone, Copy, Debug, PartialEq, Eq)]
 pub enum Class {
