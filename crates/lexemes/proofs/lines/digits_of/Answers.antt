@@ -9,16 +9,16 @@ use Rattle.lexemes.proofs.lines.digits_of.Goals as goal
 pub loop-i-init : goal.loop-i-init
 loop-i-init c = omega arith
 
-pub returns-then-not-is-ascii-digit : goal.returns-then-not-is-ascii-digit
+pub returns-then-not-is_ascii_digit : goal.returns-then-not-is_ascii_digit
 unfolding digits_of
-returns-then-not-is-ascii-digit c =
-    let off = run_off is_ascii_digit c.args.text.now c.loop-i.i c.loop-i-test.true (sym c.if-not-is-ascii-digit.ensures.value) in
+returns-then-not-is_ascii_digit c =
+    let off = run_off is_ascii_digit c.args.text.now c.loop-i.i c.loop-i-test.true (sym c.if-not-is_ascii_digit.ensures.value) in
     let end : c.loop-i.i - 0 ≡ run is_ascii_digit c.args.text.now = omega arith in
     ap (λ n. take n c.args.text.now) end
 
 pub loop-i-preserved : goal.loop-i-preserved
 loop-i-preserved c =
-    let on = run_on is_ascii_digit c.args.text.now c.loop-i.i c.loop-i-test.true (sym c.if-not-is-ascii-digit.ensures.value) in
+    let on = run_on is_ascii_digit c.args.text.now c.loop-i.i c.loop-i-test.true (sym c.if-not-is_ascii_digit.ensures.value) in
     omega arith
 
 pub returns : goal.returns

@@ -7,10 +7,10 @@ use Rattle.lexemes.proofs.lines.listing.Goals as goal
 
 pub returns-then-source-gt-MOST-BYTES : goal.returns-then-source-gt-MOST-BYTES
 returns-then-source-gt-MOST-BYTES c items lexes =
-    c.in-ok-push.ensures
-    ∙ ap (λ l. l ++ c.as-bytes.result.now) c.new-text.ensures.items
-    ∙ c.as-bytes.ensures.value
-    ∙ c.in-ok-line.ensures
+    c.in_ok-push.ensures
+    ∙ ap (λ l. l ++ c.as_bytes.result.now) c.new-text.ensures.items
+    ∙ c.as_bytes.ensures.value
+    ∙ c.in_ok-line.ensures
     ∙ long_listing c.args.source.now items c.if-source-gt-MOST-BYTES.true
 
 pub loop-index-init : goal.loop-index-init
@@ -18,7 +18,7 @@ unfolding lines_from
 loop-index-init c = c.new-text.ensures.items
 
 pub loop-index-preserved : goal.loop-index-preserved
-loop-index-preserved c = lines_more c.args.source.now c.items-items.result.now c.loop-index.index _ _ _ c.loop-index-test.true c.loop-index.invariant c.in-ok-push-line.ensures
+loop-index-preserved c = lines_more c.args.source.now c.items-items.result.now c.loop-index.index _ _ _ c.loop-index-test.true c.loop-index.invariant c.in_ok-push_line.ensures
 
 pub returns : goal.returns
 returns c items lexes =

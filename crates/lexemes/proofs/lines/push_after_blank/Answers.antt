@@ -3,4 +3,4 @@ use Rattle.lexemes.proofs.Pieces.{blank_word}
 use Rattle.lexemes.proofs.lines.push_after_blank.Goals as goal
 
 pub returns : goal.returns
-returns c = blank_word _ _ _ c.args.word.now (sym c.if-is-empty.ensures) c.in-ok-push.ensures c.in-ok-push-2.ensures
+returns c = blank_word _ _ _ c.args.word.now (sym c.if-is_empty.ensures) c.in_ok-push.ensures c.in_ok-push-2.ensures

@@ -8,7 +8,7 @@ pub returns : goal.returns
 returns c =
     let at = c.args.placed.at in
     let text = vec_items c.args.text.now in
-    let front = c.as-bytes.ensures.value ∙ c.in-ok-front.ensures ∙ ap (λ kind. decimal at ++ (codes " " ++ kind)) c.kind-of.ensures in
-    let first = c.in-ok-push.ensures ∙ ap (λ l. text ++ l) front in
-    let second = c.in-ok-push-after-blank.ensures ∙ ap (λ l. vec_items c.push.new.text ++ after_blank l) c.spelling-of.ensures in
-    three text _ _ _ (decimal at ++ (codes " " ++ kind_text (symbol_of c.args.placed.token))) _ _ first second c.in-ok-push-2.ensures
+    let front = c.as_bytes.ensures.value ∙ c.in_ok-front.ensures ∙ ap (λ kind. decimal at ++ (codes " " ++ kind)) c.kind_of.ensures in
+    let first = c.in_ok-push.ensures ∙ ap (λ l. text ++ l) front in
+    let second = c.in_ok-push_after_blank.ensures ∙ ap (λ l. vec_items c.push.new.text ++ after_blank l) c.spelling_of.ensures in
+    three text _ _ _ (decimal at ++ (codes " " ++ kind_text (symbol_of c.args.placed.token))) _ _ first second c.in_ok-push-2.ensures

@@ -16,7 +16,7 @@ pub loop-d-preserved : goal.loop-d-preserved
 loop-d-preserved c =
     let ds = c.args.digits.now in
     let i = c.loop-d.d-index in
-    let digit = ap (λ d. reading_from (c.loop-d.value * 10 + d) (drop (i + 1) ds)) (sym c.saturating-sub.ensures) in
+    let digit = ap (λ d. reading_from (c.loop-d.value * 10 + d) (drop (i + 1) ds)) (sym c.saturating_sub.ensures) in
     (omega arith, c.loop-d.invariant.1 ∙ reading_on c.loop-d.value ds i c.loop-d-test.true ∙ digit)
 
 pub returns : goal.returns

@@ -11,11 +11,11 @@ returns-in-Free c =
     let h : c.args.first < length xs = omega arith in
     ap next_free c.in-Free.ensures.cell ∙ sym (free_at xs c.args.first h)
 
-pub returns-in-default : goal.returns-in-default
-returns-in-default c =
+pub returns-in_default : goal.returns-in_default
+returns-in_default c =
     let xs = places_in c.args.self.now in
     let h : c.args.first < length xs = omega arith in
-    sym (free_at xs c.args.first h ∙ ap next_free (sym c.at.ensures.cell) ∙ not_free c.at.result c.in-default.not-Free)
+    sym (free_at xs c.args.first h ∙ ap next_free (sym c.at.ensures.cell) ∙ not_free c.at.result c.in_default.not-Free)
 
 pub returns-else-first-places : goal.returns-else-first-places
 returns-else-first-places c =

@@ -7,8 +7,8 @@ use Rattle.counting.proofs.store.Store.raise.Goals as goal
 pub write-requires : goal.write-requires
 write-requires c = cell_within _ _ c.in-Taken.ensures.cell refl
 
-pub returns-in-default-at : goal.returns-in-default-at
-returns-in-default-at c = record {
-  cells = raise_left (places_in c.args.self.now) c.args.value c.in-At.place c.at.result c.in-At.is c.in-default-at.not-Taken c.at.ensures.cell;
+pub returns-in_default-at : goal.returns-in_default-at
+returns-in_default-at c = record {
+  cells = raise_left (places_in c.args.self.now) c.args.value c.in-At.place c.at.result c.in-At.is c.in_default-at.not-Taken c.at.ensures.cell;
   rest = kept_none;
 }

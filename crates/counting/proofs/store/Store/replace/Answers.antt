@@ -9,13 +9,13 @@ pub raise-requires : goal.raise-requires
 raise-requires c = own_small c.args.value (owing_none (places_in c.args.self.now) c.args.free c.requires.sound) (first_few 1024 c.args.self.now.cells.items) (omega arith)
 
 pub lower-dying-requires : goal.lower-dying-requires
-lower-dying-requires c = owed_named (put_owing c.requires c.raise.ensures.cells c.set-slot.ensures.cells)
+lower-dying-requires c = owed_named (put_owing c.requires c.raise.ensures.cells c.set_slot.ensures.cells)
 
 pub settle-requires : goal.settle-requires
-settle-requires c = put_work c.requires c.raise.ensures.cells c.set-slot.ensures.cells c.lower-dying.ensures.cells c.lower-dying.ensures.head
+settle-requires c = put_work c.requires c.raise.ensures.cells c.set_slot.ensures.cells c.lower-dying.ensures.cells c.lower-dying.ensures.head
 
 pub returns : goal.returns
 returns c = record {
-  cells = settled_from (put_rooms c.requires c.raise.ensures.cells c.set-slot.ensures.cells c.lower-dying.ensures.cells) c.settle.ensures.cells;
-  rest = kept_then c.raise.ensures.rest (kept_then c.set-slot.ensures.rest (kept_then c.lower-dying.ensures.rest c.settle.ensures.rest));
+  cells = settled_from (put_rooms c.requires c.raise.ensures.cells c.set_slot.ensures.cells c.lower-dying.ensures.cells) c.settle.ensures.cells;
+  rest = kept_then c.raise.ensures.rest (kept_then c.set_slot.ensures.rest (kept_then c.lower-dying.ensures.rest c.settle.ensures.rest));
 }

@@ -7,8 +7,8 @@ use Rattle.counting.proofs.store.Store.set_slot.Goals as goal
 pub write-requires : goal.write-requires
 write-requires c = cell_within _ _ c.in-Taken.ensures.cell refl
 
-pub returns-in-default : goal.returns-in-default
-returns-in-default c = record {
-  cells = slot_left (places_in c.args.self.now) c.args.place.at c.at.result c.args.side c.args.value c.in-default.not-Taken c.at.ensures.cell;
+pub returns-in_default : goal.returns-in_default
+returns-in_default c = record {
+  cells = slot_left (places_in c.args.self.now) c.args.place.at c.at.result c.args.side c.args.value c.in_default.not-Taken c.at.ensures.cell;
   rest = kept_none;
 }

@@ -26,4 +26,4 @@ loop-left-smaller c =
     turn_falls (places_in c.loop-left.self) c.loop-left.dying c.loop-left.free _ _ _ _ c.in-Dying.ensures.cell c.write.ensures.cells c.lower-dying.ensures.cells c.lower-dying-in-Dying.ensures.cells
 
 pub returns : goal.returns
-returns c = record { cells = work_end c.loop-left.invariant.0 (ap next_dying (sym c.at.ensures.cell) ∙ not_dying c.at.result c.in-default.not-Dying); rest = c.loop-left.invariant.1 }
+returns c = record { cells = work_end c.loop-left.invariant.0 (ap next_dying (sym c.at.ensures.cell) ∙ not_dying c.at.result c.in_default.not-Dying); rest = c.loop-left.invariant.1 }

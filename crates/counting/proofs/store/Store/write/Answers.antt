@@ -3,8 +3,8 @@ use lib.Seq.{take-set-lt}
 use Rattle.counting.specs.Seen.{first_within}
 use Rattle.counting.proofs.store.Store.write.Goals as goal
 
-pub index-mut-requires : goal.index-mut-requires
-index-mut-requires c = let w = first_within 1024 c.args.self.now.cells.items c.args.place.at c.requires in omega arith
+pub index_mut-requires : goal.index_mut-requires
+index_mut-requires c = let w = first_within 1024 c.args.self.now.cells.items c.args.place.at c.requires in omega arith
 
 pub returns : goal.returns
 returns c =

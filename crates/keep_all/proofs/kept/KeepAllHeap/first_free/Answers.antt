@@ -12,7 +12,7 @@ returns-in-Free c =
 
 pub loop-at-preserved : goal.loop-at-preserved
 loop-at-preserved c =
-    all_more (model_of c.args.self.now) c.loop-at.at (search rules) (sym (ap is_taken c.in-default.ensures)) c.loop-at.invariant
+    all_more (model_of c.args.self.now) c.loop-at.at (search rules) (sym (ap is_taken c.in_default.ensures)) c.loop-at.invariant
 
 pub returns : goal.returns
 returns c = sym (ap all_taken (take_all c.loop-at.at (model_of c.args.self.now) (search rules))) ∙ c.loop-at.invariant

@@ -14,10 +14,10 @@ loop-i-preserved c = (
   drop-set-lt 1024 c.loop-i.cells.items c.loop-i.i Free (search rules) ∙ c.loop-i.invariant.2,
 )
 
-pub invariant-of-result : goal.invariant-of-result
-invariant-of-result c =
+pub invariant_of-result : goal.invariant_of-result
+invariant_of-result c =
     let cleared = clear_all c.loop-i.cells.items c.loop-i.i (search rules) c.loop-i.invariant.1 in
-    (names_from_closed _ (subst Closed (sym cleared) (closed_free c.loop-i.i)), tt)
+    record { closed = names_from_closed _ (subst Closed (sym cleared) (closed_free c.loop-i.i)) }
 
 pub returns : goal.returns
 returns c = record {

@@ -4,13 +4,13 @@ use Rattle.heap.proofs.Rooms.{names_from_closed}
 use Rattle.keep_all.proofs.Cells.{places_count, places_set, spare_set}
 use Rattle.keep_all.proofs.kept.KeepAllHeap.write.Goals as goal
 
-pub index-mut-requires : goal.index-mut-requires
-index-mut-requires c = let count = places_count c.args.self.now.cells.items in search rules
+pub index_mut-requires : goal.index_mut-requires
+index_mut-requires c = let count = places_count c.args.self.now.cells.items in search rules
 
-pub invariant-of-self : goal.invariant-of-self
-invariant-of-self c =
+pub invariant_of-self : goal.invariant_of-self
+invariant_of-self c =
     let same = places_set c.args.self.now.cells.items c.args.place.at c.args.cell c.requires.within in
-    (names_from_closed _ (subst Closed (sym same) c.requires.closed), tt)
+    record { closed = names_from_closed _ (subst Closed (sym same) c.requires.closed) }
 
 pub returns : goal.returns
 returns c = record {

@@ -10,60 +10,60 @@ use Rattle.reader.proofs.code.Code.+actuals_bracket_chain_compared_conditions_in
 
 -- actuals
 
-pub actuals-returns-in-err-take : goal.actuals-returns-in-err-take
-actuals-returns-in-err-take t c =
-    let p = err_from_is_err_and c.from-residual.result c.from-residual.ensures.1 in
-    rw (p.1, p.2) (list_none_stuck c.args.depth (sym c.at-mark.ensures.value ∙ c.if-at-mark.true) c.in-err-take.ensures)
+pub actuals-returns-in_err-take : goal.actuals-returns-in_err-take
+actuals-returns-in_err-take t c =
+    let p = err_from_is_err_and c.from_residual.result c.from_residual.ensures.1 in
+    rw (p.1, p.2) (list_none_stuck c.args.depth (sym c.at_mark.ensures.value ∙ c.if-at_mark.true) c.in_err-take.ensures)
 
-pub actuals-returns-then-at-mark : goal.actuals-returns-then-at-mark
-actuals-returns-then-at-mark t c = list_none c.args.depth c.requires.few (sym c.at-mark.ensures.value ∙ c.if-at-mark.true) c.in-ok-take.ensures
+pub actuals-returns-then-at_mark : goal.actuals-returns-then-at_mark
+actuals-returns-then-at_mark t c = list_none c.args.depth c.requires.few (sym c.at_mark.ensures.value ∙ c.if-at_mark.true) c.in_ok-take.ensures
 
-pub actuals-returns-in-err-level : goal.actuals-returns-in-err-level
-actuals-returns-in-err-level t c =
-    let p = err_from_is_err_and c.from-residual-in-err-level.result c.from-residual-in-err-level.ensures.1 in
-    rw (p.1, p.2) (list_fails c.args.depth (sym c.at-mark.ensures.value ∙ c.if-at-mark.false) (stops_in c.deeper-inner.ensures c.in-err-level.ensures))
+pub actuals-returns-in_err-level : goal.actuals-returns-in_err-level
+actuals-returns-in_err-level t c =
+    let p = err_from_is_err_and c.from_residual-in_err-level.result c.from_residual-in_err-level.ensures.1 in
+    rw (p.1, p.2) (list_fails c.args.depth (sym c.at_mark.ensures.value ∙ c.if-at_mark.false) (stops_in c.deeper-inner.ensures c.in_err-level.ensures))
 
 pub actuals-loop-cursor-init : goal.actuals-loop-cursor-init
-actuals-loop-cursor-init t c = start_list (suc c.args.depth) (λ g. expression g (suc c.args.depth)) 1 (went_in c.deeper-inner.ensures c.in-ok-level.ensures).moved.few
+actuals-loop-cursor-init t c = start_list (suc c.args.depth) (λ g. expression g (suc c.args.depth)) 1 (went_in c.deeper-inner.ensures c.in_ok-level.ensures).moved.few
 
-pub actuals-returns-in-err-take-2 : goal.actuals-returns-in-err-take-2
-actuals-returns-in-err-take-2 t c =
-    let p = err_from_is_err_and c.from-residual-in-err-take-2.result c.from-residual-in-err-take-2.ensures.1 in
-    rw (p.1, p.2) (list_stuck c.args.depth c.requires.few (sym c.at-mark.ensures.value ∙ c.if-at-mark.false) (went_in c.deeper-inner.ensures c.in-ok-level.ensures) c.loop-cursor.invariant (sym c.at-mark-in-loop-cursor.ensures.value ∙ c.loop-cursor-test.true) (stuck_in c.deeper-inner.ensures c.in-err-take-2.ensures))
+pub actuals-returns-in_err-take-2 : goal.actuals-returns-in_err-take-2
+actuals-returns-in_err-take-2 t c =
+    let p = err_from_is_err_and c.from_residual-in_err-take-2.result c.from_residual-in_err-take-2.ensures.1 in
+    rw (p.1, p.2) (list_stuck c.args.depth c.requires.few (sym c.at_mark.ensures.value ∙ c.if-at_mark.false) (went_in c.deeper-inner.ensures c.in_ok-level.ensures) c.loop-cursor.invariant (sym c.at_mark-in-loop-cursor.ensures.value ∙ c.loop-cursor-test.true) (stuck_in c.deeper-inner.ensures c.in_err-take-2.ensures))
 
-pub actuals-returns-in-err-level-2 : goal.actuals-returns-in-err-level-2
-actuals-returns-in-err-level-2 t c =
-    let p = err_from_is_err_and c.from-residual-in-err-level-2.result c.from-residual-in-err-level-2.ensures.1 in
-    rw (p.1, p.2) (list_broke c.args.depth c.requires.few (sym c.at-mark.ensures.value ∙ c.if-at-mark.false) (went_in c.deeper-inner.ensures c.in-ok-level.ensures) c.loop-cursor.invariant (sym c.at-mark-in-loop-cursor.ensures.value ∙ c.loop-cursor-test.true) (passed_in c.deeper-inner.ensures c.in-ok-take-2.ensures) (stops_in c.deeper-inner.ensures c.in-err-level-2.ensures))
+pub actuals-returns-in_err-level-2 : goal.actuals-returns-in_err-level-2
+actuals-returns-in_err-level-2 t c =
+    let p = err_from_is_err_and c.from_residual-in_err-level-2.result c.from_residual-in_err-level-2.ensures.1 in
+    rw (p.1, p.2) (list_broke c.args.depth c.requires.few (sym c.at_mark.ensures.value ∙ c.if-at_mark.false) (went_in c.deeper-inner.ensures c.in_ok-level.ensures) c.loop-cursor.invariant (sym c.at_mark-in-loop-cursor.ensures.value ∙ c.loop-cursor-test.true) (passed_in c.deeper-inner.ensures c.in_ok-take-2.ensures) (stops_in c.deeper-inner.ensures c.in_err-level-2.ensures))
 
 pub actuals-loop-cursor-preserved : goal.actuals-loop-cursor-preserved
-actuals-loop-cursor-preserved t c = list_turn (suc c.args.depth) (λ g. expression g (suc c.args.depth)) c.loop-cursor.invariant (sym c.at-mark-in-loop-cursor.ensures.value ∙ c.loop-cursor-test.true) (passed_in c.deeper-inner.ensures c.in-ok-take-2.ensures) (went_in c.deeper-inner.ensures c.in-ok-level-2.ensures)
+actuals-loop-cursor-preserved t c = list_turn (suc c.args.depth) (λ g. expression g (suc c.args.depth)) c.loop-cursor.invariant (sym c.at_mark-in-loop-cursor.ensures.value ∙ c.loop-cursor-test.true) (passed_in c.deeper-inner.ensures c.in_ok-take-2.ensures) (went_in c.deeper-inner.ensures c.in_ok-level-2.ensures)
 
-pub actuals-returns-in-err-expect : goal.actuals-returns-in-err-expect
-actuals-returns-in-err-expect t c =
-    let p = err_from_is_err_and c.from-residual-in-err-expect.result c.from-residual-in-err-expect.ensures.1 in
-    rw (p.1, p.2) (list_open c.args.depth c.requires.few (sym c.at-mark.ensures.value ∙ c.if-at-mark.false) (went_in c.deeper-inner.ensures c.in-ok-level.ensures) c.loop-cursor.invariant (sym c.at-mark-in-loop-cursor.ensures.value ∙ c.loop-cursor-test.false) c.in-err-expect.ensures)
+pub actuals-returns-in_err-expect : goal.actuals-returns-in_err-expect
+actuals-returns-in_err-expect t c =
+    let p = err_from_is_err_and c.from_residual-in_err-expect.result c.from_residual-in_err-expect.ensures.1 in
+    rw (p.1, p.2) (list_open c.args.depth c.requires.few (sym c.at_mark.ensures.value ∙ c.if-at_mark.false) (went_in c.deeper-inner.ensures c.in_ok-level.ensures) c.loop-cursor.invariant (sym c.at_mark-in-loop-cursor.ensures.value ∙ c.loop-cursor-test.false) c.in_err-expect.ensures)
 
 pub actuals-returns : goal.actuals-returns
-actuals-returns t c = list_done c.args.depth c.requires.few (sym c.at-mark.ensures.value ∙ c.if-at-mark.false) (went_in c.deeper-inner.ensures c.in-ok-level.ensures) c.loop-cursor.invariant (sym c.at-mark-in-loop-cursor.ensures.value ∙ c.loop-cursor-test.false) c.in-ok-expect.ensures
+actuals-returns t c = list_done c.args.depth c.requires.few (sym c.at_mark.ensures.value ∙ c.if-at_mark.false) (went_in c.deeper-inner.ensures c.in_ok-level.ensures) c.loop-cursor.invariant (sym c.at_mark-in-loop-cursor.ensures.value ∙ c.loop-cursor-test.false) c.in_ok-expect.ensures
 
 -- named
 
-pub named-returns-then-not-at-mark : goal.named-returns-then-not-at-mark
-named-returns-then-not-at-mark t c = named_variable c.args.depth c.args.name c.requires.few (sym c.at-mark.ensures.value ∙ c.if-not-at-mark.true) c.push.ensures
+pub named-returns-then-not-at_mark : goal.named-returns-then-not-at_mark
+named-returns-then-not-at_mark t c = named_variable c.args.depth c.args.name c.requires.few (sym c.at_mark.ensures.value ∙ c.if-not-at_mark.true) c.push.ensures
 
-pub named-returns-in-err-take : goal.named-returns-in-err-take
-named-returns-in-err-take t c =
-    let p = err_from_is_err_and c.from-residual.result c.from-residual.ensures.1 in
-    rw (p.1, p.2) (named_stuck c.args.depth c.args.name (sym c.at-mark.ensures.value ∙ c.if-not-at-mark.false) c.in-err-take.ensures)
+pub named-returns-in_err-take : goal.named-returns-in_err-take
+named-returns-in_err-take t c =
+    let p = err_from_is_err_and c.from_residual.result c.from_residual.ensures.1 in
+    rw (p.1, p.2) (named_stuck c.args.depth c.args.name (sym c.at_mark.ensures.value ∙ c.if-not-at_mark.false) c.in_err-take.ensures)
 
-pub named-returns-in-err-count : goal.named-returns-in-err-count
-named-returns-in-err-count t c =
-    let p = err_from_is_err_and c.from-residual-in-err-count.result c.from-residual-in-err-count.ensures.1 in
-    rw (p.1, p.2) (named_broke c.args.depth c.args.name (sym c.at-mark.ensures.value ∙ c.if-not-at-mark.false) c.in-ok-take.ensures c.in-err-count.ensures)
+pub named-returns-in_err-count : goal.named-returns-in_err-count
+named-returns-in_err-count t c =
+    let p = err_from_is_err_and c.from_residual-in_err-count.result c.from_residual-in_err-count.ensures.1 in
+    rw (p.1, p.2) (named_broke c.args.depth c.args.name (sym c.at_mark.ensures.value ∙ c.if-not-at_mark.false) c.in_ok-take.ensures c.in_err-count.ensures)
 
 pub named-returns : goal.named-returns
-named-returns t c = named_call c.args.depth c.args.name c.requires.few (sym c.at-mark.ensures.value ∙ c.if-not-at-mark.false) c.in-ok-take.ensures c.push-2.ensures c.in-ok-count.ensures c.push-3.ensures
+named-returns t c = named_call c.args.depth c.args.name c.requires.few (sym c.at_mark.ensures.value ∙ c.if-not-at_mark.false) c.in_ok-take.ensures c.push-2.ensures c.in_ok-count.ensures c.push-3.ensures
 
 -- inside
 
@@ -75,213 +75,213 @@ inside-returns t c = inside_plain c.args.merged c.args.depth c.args.cursor.now c
 
 -- bracket
 
-pub bracket-returns-in-err-take : goal.bracket-returns-in-err-take
-bracket-returns-in-err-take t c =
-    let p = err_from_is_err_and c.from-residual.result c.from-residual.ensures.1 in
-    rw (p.1, p.2) (cast_stuck c.args.merged c.args.depth c.args.at c.in-Some.ensures.0 c.in-err-take.ensures)
+pub bracket-returns-in_err-take : goal.bracket-returns-in_err-take
+bracket-returns-in_err-take t c =
+    let p = err_from_is_err_and c.from_residual.result c.from_residual.ensures.1 in
+    rw (p.1, p.2) (cast_stuck c.args.merged c.args.depth c.args.at c.in-Some.ensures.0 c.in_err-take.ensures)
 
-pub bracket-returns-in-err-expect : goal.bracket-returns-in-err-expect
-bracket-returns-in-err-expect t c =
-    let p = err_from_is_err_and c.from-residual-in-err-expect.result c.from-residual-in-err-expect.ensures.1 in
-    rw (p.1, p.2) (cast_open c.args.merged c.args.depth c.args.at c.in-Some.ensures.0 c.in-ok-take.ensures c.in-err-expect.ensures)
+pub bracket-returns-in_err-expect : goal.bracket-returns-in_err-expect
+bracket-returns-in_err-expect t c =
+    let p = err_from_is_err_and c.from_residual-in_err-expect.result c.from_residual-in_err-expect.ensures.1 in
+    rw (p.1, p.2) (cast_open c.args.merged c.args.depth c.args.at c.in-Some.ensures.0 c.in_ok-take.ensures c.in_err-expect.ensures)
 
-pub bracket-returns-in-err-operand : goal.bracket-returns-in-err-operand
-bracket-returns-in-err-operand t c =
-    let p = err_from_is_err_and c.from-residual-in-err-operand.result c.from-residual-in-err-operand.ensures.1 in
-    rw (p.1, p.2) (cast_broke c.args.merged c.args.depth c.args.at c.in-Some.ensures.0 c.in-ok-take.ensures c.in-ok-expect.ensures c.in-err-operand.ensures)
+pub bracket-returns-in_err-operand : goal.bracket-returns-in_err-operand
+bracket-returns-in_err-operand t c =
+    let p = err_from_is_err_and c.from_residual-in_err-operand.result c.from_residual-in_err-operand.ensures.1 in
+    rw (p.1, p.2) (cast_broke c.args.merged c.args.depth c.args.at c.in-Some.ensures.0 c.in_ok-take.ensures c.in_ok-expect.ensures c.in_err-operand.ensures)
 
 pub bracket-returns-in-Some : goal.bracket-returns-in-Some
-bracket-returns-in-Some t c = cast_done c.args.merged c.args.depth c.args.at c.in-Some.ensures.0 c.requires.ready.few c.in-Some.ensures.1 c.in-ok-take.ensures c.in-ok-expect.ensures c.push.ensures c.in-ok-operand.ensures c.push-in-Some.ensures
+bracket-returns-in-Some t c = cast_done c.args.merged c.args.depth c.args.at c.in-Some.ensures.0 c.requires.ready.few c.in-Some.ensures.1 c.in_ok-take.ensures c.in_ok-expect.ensures c.push.ensures c.in_ok-operand.ensures c.push-in-Some.ensures
 
-pub bracket-returns-in-err-thing : goal.bracket-returns-in-err-thing
-bracket-returns-in-err-thing t c =
-    let p = err_from_is_err_and c.from-residual-in-err-thing.result c.from-residual-in-err-thing.ensures.1 in
-    rw (p.1, p.2) (group_broke c.args.merged c.args.depth c.args.at c.in-default.ensures c.in-err-thing.ensures)
+pub bracket-returns-in_err-thing : goal.bracket-returns-in_err-thing
+bracket-returns-in_err-thing t c =
+    let p = err_from_is_err_and c.from_residual-in_err-thing.result c.from_residual-in_err-thing.ensures.1 in
+    rw (p.1, p.2) (group_broke c.args.merged c.args.depth c.args.at c.in_default.ensures c.in_err-thing.ensures)
 
-pub bracket-returns-in-err-expect-2 : goal.bracket-returns-in-err-expect-2
-bracket-returns-in-err-expect-2 t c =
-    let p = err_from_is_err_and c.from-residual-in-err-expect-2.result c.from-residual-in-err-expect-2.ensures.1 in
-    rw (p.1, p.2) (group_open c.args.merged c.args.depth c.args.at c.in-default.ensures c.in-ok-thing.ensures c.in-err-expect-2.ensures)
+pub bracket-returns-in_err-expect-2 : goal.bracket-returns-in_err-expect-2
+bracket-returns-in_err-expect-2 t c =
+    let p = err_from_is_err_and c.from_residual-in_err-expect-2.result c.from_residual-in_err-expect-2.ensures.1 in
+    rw (p.1, p.2) (group_open c.args.merged c.args.depth c.args.at c.in_default.ensures c.in_ok-thing.ensures c.in_err-expect-2.ensures)
 
 pub bracket-returns : goal.bracket-returns
-bracket-returns t c = group_done c.args.merged c.args.depth c.args.at c.in-default.ensures c.requires.ready.few c.in-ok-thing.ensures c.in-ok-expect-2.ensures
+bracket-returns t c = group_done c.args.merged c.args.depth c.args.at c.in_default.ensures c.requires.ready.few c.in_ok-thing.ensures c.in_ok-expect-2.ensures
 
 -- operand
 
-pub operand-returns-in-err-take : goal.operand-returns-in-err-take
-operand-returns-in-err-take t c =
-    let p = err_from_is_err_and c.from-residual.result c.from-residual.ensures.1 in
-    rw (p.1, p.2) (constant_stuck c.args.merged c.args.depth c.in-Some.ensures.0 c.in-err-take.ensures)
+pub operand-returns-in_err-take : goal.operand-returns-in_err-take
+operand-returns-in_err-take t c =
+    let p = err_from_is_err_and c.from_residual.result c.from_residual.ensures.1 in
+    rw (p.1, p.2) (constant_stuck c.args.merged c.args.depth c.in-Some.ensures.0 c.in_err-take.ensures)
 
 pub operand-returns-in-Some : goal.operand-returns-in-Some
-operand-returns-in-Some t c = constant_done c.args.merged c.args.depth c.requires.few c.in-Some.ensures c.in-ok-take.ensures c.push.ensures
+operand-returns-in-Some t c = constant_done c.args.merged c.args.depth c.requires.few c.in-Some.ensures c.in_ok-take.ensures c.push.ensures
 
-pub operand-returns-in-err-take-2 : goal.operand-returns-in-err-take-2
-operand-returns-in-err-take-2 t c =
-    let p = err_from_is_err_and c.from-residual-in-err-take-2.result c.from-residual-in-err-take-2.ensures.1 in
-    rw (p.1, p.2) (name_stuck c.args.merged c.args.depth c.in-default.ensures c.in-Some-name.ensures.0 c.in-err-take-2.ensures)
+pub operand-returns-in_err-take-2 : goal.operand-returns-in_err-take-2
+operand-returns-in_err-take-2 t c =
+    let p = err_from_is_err_and c.from_residual-in_err-take-2.result c.from_residual-in_err-take-2.ensures.1 in
+    rw (p.1, p.2) (name_stuck c.args.merged c.args.depth c.in_default.ensures c.in-Some-name.ensures.0 c.in_err-take-2.ensures)
 
-pub operand-returns-in-err-named : goal.operand-returns-in-err-named
-operand-returns-in-err-named t c =
-    let p = err_from_is_err_and c.from-residual-in-err-named.result c.from-residual-in-err-named.ensures.1 in
-    rw (p.1, p.2) (name_broke c.args.merged c.args.depth c.in-default.ensures c.in-Some-name.ensures c.in-ok-take-2.ensures c.in-err-named.ensures)
+pub operand-returns-in_err-named : goal.operand-returns-in_err-named
+operand-returns-in_err-named t c =
+    let p = err_from_is_err_and c.from_residual-in_err-named.result c.from_residual-in_err-named.ensures.1 in
+    rw (p.1, p.2) (name_broke c.args.merged c.args.depth c.in_default.ensures c.in-Some-name.ensures c.in_ok-take-2.ensures c.in_err-named.ensures)
 
 pub operand-returns-in-Some-name : goal.operand-returns-in-Some-name
-operand-returns-in-Some-name t c = name_done c.args.merged c.args.depth c.in-default.ensures c.requires.few c.in-Some-name.ensures c.in-ok-take-2.ensures c.in-ok-named.ensures
+operand-returns-in-Some-name t c = name_done c.args.merged c.args.depth c.in_default.ensures c.requires.few c.in-Some-name.ensures c.in_ok-take-2.ensures c.in_ok-named.ensures
 
-pub operand-returns-in-err-take-3 : goal.operand-returns-in-err-take-3
-operand-returns-in-err-take-3 t c =
-    let p = err_from_is_err_and c.from-residual-in-err-take-3.result c.from-residual-in-err-take-3.ensures.1 in
-    rw (p.1, p.2) (nil_stuck c.args.merged c.args.depth c.in-default.ensures c.in-default-name.ensures (sym c.at-keyword.ensures.value ∙ c.if-at-keyword.true) c.in-err-take-3.ensures)
+pub operand-returns-in_err-take-3 : goal.operand-returns-in_err-take-3
+operand-returns-in_err-take-3 t c =
+    let p = err_from_is_err_and c.from_residual-in_err-take-3.result c.from_residual-in_err-take-3.ensures.1 in
+    rw (p.1, p.2) (nil_stuck c.args.merged c.args.depth c.in_default.ensures c.in_default-name.ensures (sym c.at_keyword.ensures.value ∙ c.if-at_keyword.true) c.in_err-take-3.ensures)
 
-pub operand-returns-then-at-keyword : goal.operand-returns-then-at-keyword
-operand-returns-then-at-keyword t c = nil_done c.args.merged c.args.depth c.in-default.ensures c.in-default-name.ensures c.requires.few (sym c.at-keyword.ensures.value ∙ c.if-at-keyword.true) c.in-ok-take-3.ensures c.push-then-at-keyword.ensures
+pub operand-returns-then-at_keyword : goal.operand-returns-then-at_keyword
+operand-returns-then-at_keyword t c = nil_done c.args.merged c.args.depth c.in_default.ensures c.in_default-name.ensures c.requires.few (sym c.at_keyword.ensures.value ∙ c.if-at_keyword.true) c.in_ok-take-3.ensures c.push-then-at_keyword.ensures
 
-pub operand-returns-in-err-take-4 : goal.operand-returns-in-err-take-4
-operand-returns-in-err-take-4 t c =
-    let p = err_from_is_err_and c.from-residual-in-err-take-4.result c.from-residual-in-err-take-4.ensures.1 in
-    rw (p.1, p.2) (minus_stuck c.args.merged c.args.depth c.in-default.ensures c.in-default-name.ensures (sym c.at-keyword.ensures.value ∙ c.if-at-keyword.false) (sym c.at-mark.ensures.value ∙ c.if-at-mark.true) c.in-err-take-4.ensures)
+pub operand-returns-in_err-take-4 : goal.operand-returns-in_err-take-4
+operand-returns-in_err-take-4 t c =
+    let p = err_from_is_err_and c.from_residual-in_err-take-4.result c.from_residual-in_err-take-4.ensures.1 in
+    rw (p.1, p.2) (minus_stuck c.args.merged c.args.depth c.in_default.ensures c.in_default-name.ensures (sym c.at_keyword.ensures.value ∙ c.if-at_keyword.false) (sym c.at_mark.ensures.value ∙ c.if-at_mark.true) c.in_err-take-4.ensures)
 
-pub operand-returns-in-err-operand : goal.operand-returns-in-err-operand
-operand-returns-in-err-operand t c =
-    let p = err_from_is_err_and c.from-residual-in-err-operand.result c.from-residual-in-err-operand.ensures.1 in
-    rw (p.1, p.2) (minus_broke c.args.merged c.args.depth c.in-default.ensures c.in-default-name.ensures (sym c.at-keyword.ensures.value ∙ c.if-at-keyword.false) (sym c.at-mark.ensures.value ∙ c.if-at-mark.true) c.in-ok-take-4.ensures c.in-err-operand.ensures)
+pub operand-returns-in_err-operand : goal.operand-returns-in_err-operand
+operand-returns-in_err-operand t c =
+    let p = err_from_is_err_and c.from_residual-in_err-operand.result c.from_residual-in_err-operand.ensures.1 in
+    rw (p.1, p.2) (minus_broke c.args.merged c.args.depth c.in_default.ensures c.in_default-name.ensures (sym c.at_keyword.ensures.value ∙ c.if-at_keyword.false) (sym c.at_mark.ensures.value ∙ c.if-at_mark.true) c.in_ok-take-4.ensures c.in_err-operand.ensures)
 
-pub operand-returns-then-at-mark : goal.operand-returns-then-at-mark
-operand-returns-then-at-mark t c = minus_done c.args.merged c.args.depth c.in-default.ensures c.in-default-name.ensures (sym c.at-keyword.ensures.value ∙ c.if-at-keyword.false) c.requires.few (sym c.at-mark.ensures.value ∙ c.if-at-mark.true) c.in-ok-take-4.ensures c.push-then-at-mark.ensures c.in-ok-operand.ensures c.push-then-at-mark-2.ensures
+pub operand-returns-then-at_mark : goal.operand-returns-then-at_mark
+operand-returns-then-at_mark t c = minus_done c.args.merged c.args.depth c.in_default.ensures c.in_default-name.ensures (sym c.at_keyword.ensures.value ∙ c.if-at_keyword.false) c.requires.few (sym c.at_mark.ensures.value ∙ c.if-at_mark.true) c.in_ok-take-4.ensures c.push-then-at_mark.ensures c.in_ok-operand.ensures c.push-then-at_mark-2.ensures
 
-pub operand-returns-then-not-at-mark : goal.operand-returns-then-not-at-mark
-operand-returns-then-not-at-mark t c = operand_wrong c.args.merged c.args.depth c.in-default.ensures c.in-default-name.ensures (sym c.at-keyword.ensures.value ∙ c.if-at-keyword.false) (sym c.at-mark.ensures.value ∙ c.if-at-mark.false) (sym c.at-mark-2.ensures.value ∙ c.if-not-at-mark.true) c.wrong.ensures
+pub operand-returns-then-not-at_mark : goal.operand-returns-then-not-at_mark
+operand-returns-then-not-at_mark t c = operand_wrong c.args.merged c.args.depth c.in_default.ensures c.in_default-name.ensures (sym c.at_keyword.ensures.value ∙ c.if-at_keyword.false) (sym c.at_mark.ensures.value ∙ c.if-at_mark.false) (sym c.at_mark-2.ensures.value ∙ c.if-not-at_mark.true) c.wrong.ensures
 
-pub operand-returns-in-err-take-5 : goal.operand-returns-in-err-take-5
-operand-returns-in-err-take-5 t c =
-    let p = err_from_is_err_and c.from-residual-in-err-take-5.result c.from-residual-in-err-take-5.ensures.1 in
-    rw (p.1, p.2) (bracket_stuck c.args.merged c.args.depth c.in-default.ensures c.in-default-name.ensures (sym c.at-keyword.ensures.value ∙ c.if-at-keyword.false) (sym c.at-mark.ensures.value ∙ c.if-at-mark.false) (sym c.at-mark-2.ensures.value ∙ c.if-not-at-mark.false) c.in-err-take-5.ensures)
+pub operand-returns-in_err-take-5 : goal.operand-returns-in_err-take-5
+operand-returns-in_err-take-5 t c =
+    let p = err_from_is_err_and c.from_residual-in_err-take-5.result c.from_residual-in_err-take-5.ensures.1 in
+    rw (p.1, p.2) (bracket_stuck c.args.merged c.args.depth c.in_default.ensures c.in_default-name.ensures (sym c.at_keyword.ensures.value ∙ c.if-at_keyword.false) (sym c.at_mark.ensures.value ∙ c.if-at_mark.false) (sym c.at_mark-2.ensures.value ∙ c.if-not-at_mark.false) c.in_err-take-5.ensures)
 
 pub operand-returns : goal.operand-returns
-operand-returns t c = bracket_done c.args.merged c.args.depth c.in-default.ensures c.in-default-name.ensures (sym c.at-keyword.ensures.value ∙ c.if-at-keyword.false) (sym c.at-mark.ensures.value ∙ c.if-at-mark.false) c.take-2.new.self c.bracket.new.cursor c.args.self.now c.bracket.new.self c.bracket.result c.requires.few (sym c.at-mark-2.ensures.value ∙ c.if-not-at-mark.false) c.in-ok-take-5.ensures c.bracket.ensures
+operand-returns t c = bracket_done c.args.merged c.args.depth c.in_default.ensures c.in_default-name.ensures (sym c.at_keyword.ensures.value ∙ c.if-at_keyword.false) (sym c.at_mark.ensures.value ∙ c.if-at_mark.false) c.take-2.new.self c.bracket.new.cursor c.args.self.now c.bracket.new.self c.bracket.result c.requires.few (sym c.at_mark-2.ensures.value ∙ c.if-not-at_mark.false) c.in_ok-take-5.ensures c.bracket.ensures
 
 -- level
 
 pub level-returns-then-n-eq0 : goal.level-returns-then-n-eq0
 level-returns-then-n-eq0 t c = level_operand c.args.merged c.args.n c.args.depth c.args.cursor.now c.operand.new.cursor c.args.self.now c.operand.new.self c.operand.result c.if-n-eq0.true c.operand.ensures
 
-pub level-returns-in-err-level : goal.level-returns-in-err-level
-level-returns-in-err-level t c =
-    let p = err_from_is_err_and c.from-residual.result c.from-residual.ensures.1 in
-    rw (p.1, p.2) (level_fails c.args.merged c.args.n c.args.depth (omega arith) c.in-err-level.ensures)
+pub level-returns-in_err-level : goal.level-returns-in_err-level
+level-returns-in_err-level t c =
+    let p = err_from_is_err_and c.from_residual.result c.from_residual.ensures.1 in
+    rw (p.1, p.2) (level_fails c.args.merged c.args.n c.args.depth (omega arith) c.in_err-level.ensures)
 
-pub level-returns-in-err-chain : goal.level-returns-in-err-chain
-level-returns-in-err-chain t c =
-    let p = err_from_is_err_and c.from-residual-in-err-chain.result c.from-residual-in-err-chain.ensures.1 in
-    rw (p.1, p.2) (level_broke c.args.merged c.args.n c.args.depth (omega arith) c.in-ok-level.ensures c.in-Expression.is c.len-from.ensures c.in-err-chain.ensures)
+pub level-returns-in_err-chain : goal.level-returns-in_err-chain
+level-returns-in_err-chain t c =
+    let p = err_from_is_err_and c.from_residual-in_err-chain.result c.from_residual-in_err-chain.ensures.1 in
+    rw (p.1, p.2) (level_broke c.args.merged c.args.n c.args.depth (omega arith) c.in_ok-level.ensures c.in-Expression.is c.len-from.ensures c.in_err-chain.ensures)
 
 pub level-returns-in-Condition : goal.level-returns-in-Condition
-level-returns-in-Condition t c = level_condition c.args.merged c.args.n c.args.depth (omega arith) c.in-ok-level.ensures c.in-Condition.is
+level-returns-in-Condition t c = level_condition c.args.merged c.args.n c.args.depth (omega arith) c.in_ok-level.ensures c.in-Condition.is
 
-pub level-returns-in-ok-chain : goal.level-returns-in-ok-chain
-level-returns-in-ok-chain t c = level_done c.args.merged c.args.n c.args.depth (omega arith) c.in-ok-level.ensures c.in-Expression.is c.len-from.ensures c.requires.ready.few c.in-ok-chain.ensures
+pub level-returns-in_ok-chain : goal.level-returns-in_ok-chain
+level-returns-in_ok-chain t c = level_done c.args.merged c.args.n c.args.depth (omega arith) c.in_ok-level.ensures c.in-Expression.is c.len-from.ensures c.requires.ready.few c.in_ok-chain.ensures
 
 -- chain
 
-pub chain-returns-in-err-take : goal.chain-returns-in-err-take
-chain-returns-in-err-take t c =
-    let p = err_from_is_err_and c.from-residual.result c.from-residual.ensures.1 in
-    rw (p.1, p.2) (operators_stuck c.args.depth c.args.n c.args.start c.loop-at.invariant c.binding.ensures c.loop-at-test.true c.in-err-take.ensures)
+pub chain-returns-in_err-take : goal.chain-returns-in_err-take
+chain-returns-in_err-take t c =
+    let p = err_from_is_err_and c.from_residual.result c.from_residual.ensures.1 in
+    rw (p.1, p.2) (operators_stuck c.args.depth c.args.n c.args.start c.loop-at.invariant c.binding.ensures c.loop-at-test.true c.in_err-take.ensures)
 
-pub chain-returns-in-err-level : goal.chain-returns-in-err-level
-chain-returns-in-err-level t c =
-    let p = err_from_is_err_and c.from-residual-in-err-level.result c.from-residual-in-err-level.ensures.1 in
-    rw (p.1, p.2) (operators_broke c.args.depth c.args.n c.args.start c.loop-at.invariant c.binding.ensures c.loop-at-test.true c.in-ok-take.ensures c.in-err-level.ensures)
+pub chain-returns-in_err-level : goal.chain-returns-in_err-level
+chain-returns-in_err-level t c =
+    let p = err_from_is_err_and c.from_residual-in_err-level.result c.from_residual-in_err-level.ensures.1 in
+    rw (p.1, p.2) (operators_broke c.args.depth c.args.n c.args.start c.loop-at.invariant c.binding.ensures c.loop-at-test.true c.in_ok-take.ensures c.in_err-level.ensures)
 
 pub chain-loop-at-preserved : goal.chain-loop-at-preserved
-chain-loop-at-preserved t c = operators_again c.args.depth c.args.n c.args.start c.loop-at.invariant c.binding.ensures c.loop-at-test.true c.in-ok-take.ensures c.operator-operator.ensures c.insert.ensures c.in-ok-level.ensures c.push.ensures
+chain-loop-at-preserved t c = operators_again c.args.depth c.args.n c.args.start c.loop-at.invariant c.binding.ensures c.loop-at-test.true c.in_ok-take.ensures c.operator-operator.ensures c.insert.ensures c.in_ok-level.ensures c.push.ensures
 
 pub chain-returns : goal.chain-returns
 chain-returns t c = operators_done c.args.depth c.args.n c.args.start c.loop-at.invariant c.binding.ensures c.loop-at-test.false
 
 -- compared
 
-pub compared-returns-in-err-take : goal.compared-returns-in-err-take
-compared-returns-in-err-take t c =
-    let p = err_from_is_err_and c.from-residual.result c.from-residual.ensures.1 in
-    rw (p.1, p.2) (compared_stuck c.args.must c.args.depth c.in-Some.ensures.0 c.in-err-take.ensures)
+pub compared-returns-in_err-take : goal.compared-returns-in_err-take
+compared-returns-in_err-take t c =
+    let p = err_from_is_err_and c.from_residual.result c.from_residual.ensures.1 in
+    rw (p.1, p.2) (compared_stuck c.args.must c.args.depth c.in-Some.ensures.0 c.in_err-take.ensures)
 
-pub compared-returns-in-err-level : goal.compared-returns-in-err-level
-compared-returns-in-err-level t c =
-    let p = err_from_is_err_and c.from-residual-in-err-level.result c.from-residual-in-err-level.ensures.1 in
-    rw (p.1, p.2) (compared_broke c.args.must c.args.depth c.in-Some.ensures.0 c.in-ok-take.ensures c.in-err-level.ensures)
+pub compared-returns-in_err-level : goal.compared-returns-in_err-level
+compared-returns-in_err-level t c =
+    let p = err_from_is_err_and c.from_residual-in_err-level.result c.from_residual-in_err-level.ensures.1 in
+    rw (p.1, p.2) (compared_broke c.args.must c.args.depth c.in-Some.ensures.0 c.in_ok-take.ensures c.in_err-level.ensures)
 
 pub compared-returns-in-Some : goal.compared-returns-in-Some
-compared-returns-in-Some t c = compared_done c.args.must c.args.depth c.requires.ready.few c.in-Some.ensures.0 c.in-Some.ensures.1 c.in-ok-take.ensures c.insert.ensures c.in-ok-level.ensures c.push.ensures
+compared-returns-in-Some t c = compared_done c.args.must c.args.depth c.requires.ready.few c.in-Some.ensures.0 c.in-Some.ensures.1 c.in_ok-take.ensures c.insert.ensures c.in_ok-level.ensures c.push.ensures
 
 pub compared-returns-then-must : goal.compared-returns-then-must
-compared-returns-then-must t c = compared_wrong c.args.must c.args.depth c.args.from c.if-must.true c.in-default.ensures c.wrong.ensures
+compared-returns-then-must t c = compared_wrong c.args.must c.args.depth c.args.from c.if-must.true c.in_default.ensures c.wrong.ensures
 
 pub compared-returns-else-must : goal.compared-returns-else-must
-compared-returns-else-must t c = compared_none c.args.must c.args.depth c.args.from c.requires.ready.few c.if-must.false c.in-default.ensures
+compared-returns-else-must t c = compared_none c.args.must c.args.depth c.args.from c.requires.ready.few c.if-must.false c.in_default.ensures
 
 -- negation
 
-pub negation-returns-in-err-take : goal.negation-returns-in-err-take
-negation-returns-in-err-take t c =
-    let p = err_from_is_err_and c.from-residual.result c.from-residual.ensures.1 in
-    rw (p.1, p.2) (not_stuck c.args.must c.args.depth (sym c.at-mark.ensures.value ∙ c.if-at-mark.true) c.in-err-take.ensures)
+pub negation-returns-in_err-take : goal.negation-returns-in_err-take
+negation-returns-in_err-take t c =
+    let p = err_from_is_err_and c.from_residual.result c.from_residual.ensures.1 in
+    rw (p.1, p.2) (not_stuck c.args.must c.args.depth (sym c.at_mark.ensures.value ∙ c.if-at_mark.true) c.in_err-take.ensures)
 
-pub negation-returns-in-err-negation : goal.negation-returns-in-err-negation
-negation-returns-in-err-negation t c =
-    let p = err_from_is_err_and c.from-residual-in-err-negation.result c.from-residual-in-err-negation.ensures.1 in
-    rw (p.1, p.2) (not_broke c.args.must c.args.depth (sym c.at-mark.ensures.value ∙ c.if-at-mark.true) c.in-ok-take.ensures c.in-err-negation.ensures)
+pub negation-returns-in_err-negation : goal.negation-returns-in_err-negation
+negation-returns-in_err-negation t c =
+    let p = err_from_is_err_and c.from_residual-in_err-negation.result c.from_residual-in_err-negation.ensures.1 in
+    rw (p.1, p.2) (not_broke c.args.must c.args.depth (sym c.at_mark.ensures.value ∙ c.if-at_mark.true) c.in_ok-take.ensures c.in_err-negation.ensures)
 
-pub negation-returns-then-at-mark : goal.negation-returns-then-at-mark
-negation-returns-then-at-mark t c = not_done c.args.must c.args.depth c.requires.few (sym c.at-mark.ensures.value ∙ c.if-at-mark.true) c.in-ok-take.ensures c.push.ensures c.in-ok-negation.ensures c.push-then-at-mark.ensures
+pub negation-returns-then-at_mark : goal.negation-returns-then-at_mark
+negation-returns-then-at_mark t c = not_done c.args.must c.args.depth c.requires.few (sym c.at_mark.ensures.value ∙ c.if-at_mark.true) c.in_ok-take.ensures c.push.ensures c.in_ok-negation.ensures c.push-then-at_mark.ensures
 
-pub negation-returns-in-err-level : goal.negation-returns-in-err-level
-negation-returns-in-err-level t c =
-    let p = err_from_is_err_and c.from-residual-in-err-level.result c.from-residual-in-err-level.ensures.1 in
-    rw (p.1, p.2) (thing_broke c.args.must c.args.depth (sym c.at-mark.ensures.value ∙ c.if-at-mark.false) c.in-err-level.ensures)
+pub negation-returns-in_err-level : goal.negation-returns-in_err-level
+negation-returns-in_err-level t c =
+    let p = err_from_is_err_and c.from_residual-in_err-level.result c.from_residual-in_err-level.ensures.1 in
+    rw (p.1, p.2) (thing_broke c.args.must c.args.depth (sym c.at_mark.ensures.value ∙ c.if-at_mark.false) c.in_err-level.ensures)
 
 pub negation-returns-in-Condition : goal.negation-returns-in-Condition
-negation-returns-in-Condition t c = thing_condition c.args.must c.args.depth (sym c.at-mark.ensures.value ∙ c.if-at-mark.false) c.in-ok-level.ensures c.in-Condition.is
+negation-returns-in-Condition t c = thing_condition c.args.must c.args.depth (sym c.at_mark.ensures.value ∙ c.if-at_mark.false) c.in_ok-level.ensures c.in-Condition.is
 
 pub negation-returns-in-Expression : goal.negation-returns-in-Expression
-negation-returns-in-Expression t c = thing_expression c.args.must c.args.depth (sym c.at-mark.ensures.value ∙ c.if-at-mark.false) c.in-ok-level.ensures c.compared.new.cursor c.compared.new.self c.compared.result c.requires.few c.in-Expression.is c.len-from.ensures c.compared.ensures
+negation-returns-in-Expression t c = thing_expression c.args.must c.args.depth (sym c.at_mark.ensures.value ∙ c.if-at_mark.false) c.in_ok-level.ensures c.compared.new.cursor c.compared.new.self c.compared.result c.requires.few c.in-Expression.is c.len-from.ensures c.compared.ensures
 
 -- conditions
 
 pub conditions-returns-then-n-eq0 : goal.conditions-returns-then-n-eq0
 conditions-returns-then-n-eq0 t c = conditions_one c.args.must c.args.n c.args.depth c.args.cursor.now c.negation.new.cursor c.args.self.now c.negation.new.self c.negation.result c.if-n-eq0.true c.negation.ensures
 
-pub conditions-returns-in-err-conditions : goal.conditions-returns-in-err-conditions
-conditions-returns-in-err-conditions t c =
-    let p = err_from_is_err_and c.from-residual.result c.from-residual.ensures.1 in
-    rw (p.1, p.2) (conditions_fail c.args.must c.args.n c.args.depth (omega arith) c.in-err-conditions.ensures)
+pub conditions-returns-in_err-conditions : goal.conditions-returns-in_err-conditions
+conditions-returns-in_err-conditions t c =
+    let p = err_from_is_err_and c.from_residual.result c.from_residual.ensures.1 in
+    rw (p.1, p.2) (conditions_fail c.args.must c.args.n c.args.depth (omega arith) c.in_err-conditions.ensures)
 
-pub conditions-returns-in-err-joined : goal.conditions-returns-in-err-joined
-conditions-returns-in-err-joined t c =
-    let p = err_from_is_err_and c.from-residual-in-err-joined.result c.from-residual-in-err-joined.ensures.1 in
-    rw (p.1, p.2) (conditions_broke c.args.must c.args.n c.args.depth (omega arith) c.in-ok-conditions.ensures c.in-Condition.is c.len-from.ensures c.in-err-joined.ensures)
+pub conditions-returns-in_err-joined : goal.conditions-returns-in_err-joined
+conditions-returns-in_err-joined t c =
+    let p = err_from_is_err_and c.from_residual-in_err-joined.result c.from_residual-in_err-joined.ensures.1 in
+    rw (p.1, p.2) (conditions_broke c.args.must c.args.n c.args.depth (omega arith) c.in_ok-conditions.ensures c.in-Condition.is c.len-from.ensures c.in_err-joined.ensures)
 
 pub conditions-returns-in-Expression : goal.conditions-returns-in-Expression
-conditions-returns-in-Expression t c = conditions_expression c.args.must c.args.n c.args.depth (omega arith) c.in-ok-conditions.ensures c.in-Expression.is
+conditions-returns-in-Expression t c = conditions_expression c.args.must c.args.n c.args.depth (omega arith) c.in_ok-conditions.ensures c.in-Expression.is
 
-pub conditions-returns-in-ok-joined : goal.conditions-returns-in-ok-joined
-conditions-returns-in-ok-joined t c = conditions_done c.args.must c.args.n c.args.depth (omega arith) c.in-ok-conditions.ensures c.in-Condition.is c.len-from.ensures c.requires.ready.few c.in-ok-joined.ensures
+pub conditions-returns-in_ok-joined : goal.conditions-returns-in_ok-joined
+conditions-returns-in_ok-joined t c = conditions_done c.args.must c.args.n c.args.depth (omega arith) c.in_ok-conditions.ensures c.in-Condition.is c.len-from.ensures c.requires.ready.few c.in_ok-joined.ensures
 
 -- joined
 
-pub joined-returns-in-err-take : goal.joined-returns-in-err-take
-joined-returns-in-err-take t c =
-    let p = err_from_is_err_and c.from-residual.result c.from-residual.ensures.1 in
-    rw (p.1, p.2) (joins_stuck c.args.depth c.args.n c.loop-at.invariant c.joining.ensures c.loop-at-test.true c.in-err-take.ensures)
+pub joined-returns-in_err-take : goal.joined-returns-in_err-take
+joined-returns-in_err-take t c =
+    let p = err_from_is_err_and c.from_residual.result c.from_residual.ensures.1 in
+    rw (p.1, p.2) (joins_stuck c.args.depth c.args.n c.loop-at.invariant c.joining.ensures c.loop-at-test.true c.in_err-take.ensures)
 
-pub joined-returns-in-err-conditions : goal.joined-returns-in-err-conditions
-joined-returns-in-err-conditions t c =
-    let p = err_from_is_err_and c.from-residual-in-err-conditions.result c.from-residual-in-err-conditions.ensures.1 in
-    rw (p.1, p.2) (joins_broke c.args.depth c.args.n c.loop-at.invariant c.joining.ensures c.loop-at-test.true c.in-ok-take.ensures c.in-err-conditions.ensures)
+pub joined-returns-in_err-conditions : goal.joined-returns-in_err-conditions
+joined-returns-in_err-conditions t c =
+    let p = err_from_is_err_and c.from_residual-in_err-conditions.result c.from_residual-in_err-conditions.ensures.1 in
+    rw (p.1, p.2) (joins_broke c.args.depth c.args.n c.loop-at.invariant c.joining.ensures c.loop-at-test.true c.in_ok-take.ensures c.in_err-conditions.ensures)
 
 pub joined-loop-at-preserved : goal.joined-loop-at-preserved
-joined-loop-at-preserved t c = joins_again c.args.depth c.args.n c.loop-at.invariant c.joining.ensures c.loop-at-test.true c.requires.some c.in-ok-take.ensures c.insert.ensures c.len-middle.ensures c.in-ok-conditions.ensures (ap (λ n. n - c.len-middle.result) c.len.ensures) c.join.ensures c.insert-in-loop-at.ensures
+joined-loop-at-preserved t c = joins_again c.args.depth c.args.n c.loop-at.invariant c.joining.ensures c.loop-at-test.true c.requires.some c.in_ok-take.ensures c.insert.ensures c.len-middle.ensures c.in_ok-conditions.ensures (ap (λ n. n - c.len-middle.result) c.len.ensures) c.join.ensures c.insert-in-loop-at.ensures
 
 pub joined-returns : goal.joined-returns
 joined-returns t c = joins_done c.args.depth c.args.n c.loop-at.invariant c.joining.ensures c.loop-at-test.false

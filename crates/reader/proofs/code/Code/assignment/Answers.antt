@@ -9,48 +9,48 @@ use Rattle.reader.proofs.Says.{at_start, takes, leaves, stops, goes_on, breaks, 
 use Rattle.reader.proofs.Writes.{around, goes_further}
 use Rattle.reader.proofs.code.Code.assignment.Goals as goal
 
-pub returns-in-err-take : goal.returns-in-err-take
-returns-in-err-take c =
-    let p = err_from_is_err_and c.from-residual.result c.from-residual.ensures.1 in
-    rw (p.1, p.2) (stops _ _ _ _ (at_start (λ g. assignment c.args.depth g (expression g c.args.depth) (expression g (suc c.args.depth)) c.args.name) c.args.cursor.now) (sym c.at-mark.ensures.value ∙ c.if-at-mark.true) c.in-err-take.ensures)
+pub returns-in_err-take : goal.returns-in_err-take
+returns-in_err-take c =
+    let p = err_from_is_err_and c.from_residual.result c.from_residual.ensures.1 in
+    rw (p.1, p.2) (stops _ _ _ _ (at_start (λ g. assignment c.args.depth g (expression g c.args.depth) (expression g (suc c.args.depth)) c.args.name) c.args.cursor.now) (sym c.at_mark.ensures.value ∙ c.if-at_mark.true) c.in_err-take.ensures)
 
-pub returns-then-at-mark : goal.returns-then-at-mark
-returns-then-at-mark c =
-    let w = c.in-ok-take.ensures in
-    let l = takes _ _ _ _ (at_start (λ g. assignment c.args.depth g (expression g c.args.depth) (expression g (suc c.args.depth)) c.args.name) c.args.cursor.now) (sym c.at-mark.ensures.value ∙ c.if-at-mark.true) w in
+pub returns-then-at_mark : goal.returns-then-at_mark
+returns-then-at_mark c =
+    let w = c.in_ok-take.ensures in
+    let l = takes _ _ _ _ (at_start (λ g. assignment c.args.depth g (expression g c.args.depth) (expression g (suc c.args.depth)) c.args.name) c.args.cursor.now) (sym c.at_mark.ensures.value ∙ c.if-at_mark.true) w in
     goes_further flat_stmt _ _ _ l c.ended.result (omega arith) (c.ended.ensures _ (λ x. refl))
 
-pub returns-in-err-expect : goal.returns-in-err-expect
-returns-in-err-expect c =
-    let p = err_from_is_err_and c.from-residual-in-err-expect.result c.from-residual-in-err-expect.ensures.1 in
-    let l = leaves _ _ _ _ (at_start (λ g. assignment c.args.depth g (expression g c.args.depth) (expression g (suc c.args.depth)) c.args.name) c.args.cursor.now) (sym c.at-mark.ensures.value ∙ c.if-at-mark.false) in
-    rw (p.1, p.2) (unwanted _ _ _ l c.in-err-expect.ensures)
+pub returns-in_err-expect : goal.returns-in_err-expect
+returns-in_err-expect c =
+    let p = err_from_is_err_and c.from_residual-in_err-expect.result c.from_residual-in_err-expect.ensures.1 in
+    let l = leaves _ _ _ _ (at_start (λ g. assignment c.args.depth g (expression g c.args.depth) (expression g (suc c.args.depth)) c.args.name) c.args.cursor.now) (sym c.at_mark.ensures.value ∙ c.if-at_mark.false) in
+    rw (p.1, p.2) (unwanted _ _ _ l c.in_err-expect.ensures)
 
-pub returns-in-err-actuals : goal.returns-in-err-actuals
-returns-in-err-actuals c =
-    let p = err_from_is_err_and c.from-residual-in-err-actuals.result c.from-residual-in-err-actuals.ensures.1 in
-    let l = leaves _ _ _ _ (at_start (λ g. assignment c.args.depth g (expression g c.args.depth) (expression g (suc c.args.depth)) c.args.name) c.args.cursor.now) (sym c.at-mark.ensures.value ∙ c.if-at-mark.false) in
-    let m = wants _ sign.LeftParen _ l c.in-ok-expect.ensures in
-    rw (p.1, p.2) (breaks _ _ m c.in-err-actuals.ensures)
+pub returns-in_err-actuals : goal.returns-in_err-actuals
+returns-in_err-actuals c =
+    let p = err_from_is_err_and c.from_residual-in_err-actuals.result c.from_residual-in_err-actuals.ensures.1 in
+    let l = leaves _ _ _ _ (at_start (λ g. assignment c.args.depth g (expression g c.args.depth) (expression g (suc c.args.depth)) c.args.name) c.args.cursor.now) (sym c.at_mark.ensures.value ∙ c.if-at_mark.false) in
+    let m = wants _ sign.LeftParen _ l c.in_ok-expect.ensures in
+    rw (p.1, p.2) (breaks _ _ m c.in_err-actuals.ensures)
 
-pub returns-in-err-expect-2 : goal.returns-in-err-expect-2
-returns-in-err-expect-2 c =
-    let p = err_from_is_err_and c.from-residual-in-err-expect-2.result c.from-residual-in-err-expect-2.ensures.1 in
-    let l = leaves _ _ _ _ (at_start (λ g. assignment c.args.depth g (expression g c.args.depth) (expression g (suc c.args.depth)) c.args.name) c.args.cursor.now) (sym c.at-mark.ensures.value ∙ c.if-at-mark.false) in
-    let m = wants _ sign.LeftParen _ l c.in-ok-expect.ensures in
-    let r = c.in-ok-actuals.ensures.read in
+pub returns-in_err-expect-2 : goal.returns-in_err-expect-2
+returns-in_err-expect-2 c =
+    let p = err_from_is_err_and c.from_residual-in_err-expect-2.result c.from_residual-in_err-expect-2.ensures.1 in
+    let l = leaves _ _ _ _ (at_start (λ g. assignment c.args.depth g (expression g c.args.depth) (expression g (suc c.args.depth)) c.args.name) c.args.cursor.now) (sym c.at_mark.ensures.value ∙ c.if-at_mark.false) in
+    let m = wants _ sign.LeftParen _ l c.in_ok-expect.ensures in
+    let r = c.in_ok-actuals.ensures.read in
     let n = goes_on _ _ m r.tree r.is r.moved.fall in
-    rw (p.1, p.2) (unwanted _ _ _ n c.in-err-expect-2.ensures)
+    rw (p.1, p.2) (unwanted _ _ _ n c.in_err-expect-2.ensures)
 
 pub returns : goal.returns
 returns c =
-    let l = leaves _ _ _ _ (at_start (λ g. assignment c.args.depth g (expression g c.args.depth) (expression g (suc c.args.depth)) c.args.name) c.args.cursor.now) (sym c.at-mark.ensures.value ∙ c.if-at-mark.false) in
-    let v = c.in-ok-expect.ensures in
+    let l = leaves _ _ _ _ (at_start (λ g. assignment c.args.depth g (expression g c.args.depth) (expression g (suc c.args.depth)) c.args.name) c.args.cursor.now) (sym c.at_mark.ensures.value ∙ c.if-at_mark.false) in
+    let v = c.in_ok-expect.ensures in
     let m = wants _ sign.LeftParen _ l v in
-    let a = c.in-ok-actuals.ensures in
+    let a = c.in_ok-actuals.ensures in
     let r = a.read in
     let n = goes_on _ _ m r.tree r.is r.moved.fall in
-    let w = c.in-ok-expect-2.ensures in
+    let w = c.in_ok-expect-2.ensures in
     let k = wants _ sign.Semicolon _ n w in
     let e1 = passed_one v.1 in
     let e2 = passed_one w.1 in
@@ -58,7 +58,7 @@ returns c =
       tree = tree.calls c.args.name r.tree;
       is = k.is;
       code =
-          around (vec_items c.args.self.now.nodes) (node.Begin c.args.name.at) _ (flats r.tree) c.push-reserved.ensures.items r.code c.push-reserved-2.ensures.items
+          around (vec_items c.args.self.now.nodes) (node.Begin c.args.name.at) _ (flats r.tree) c.push_reserved.ensures.items r.code c.push_reserved-2.ensures.items
           ∙ ap (λ j. vec_items c.args.self.now.nodes ++ (node.Begin c.args.name.at ∷ (flats r.tree ++ (node.CallStatement c.args.name j ∷ [])))) a.number;
       moved = record { on = omega arith; few = omega arith; fall = omega arith; spent = omega arith; grown = omega arith; cap = omega arith; functions = r.moved.functions; formals = r.moved.formals };
     }

@@ -8,29 +8,29 @@ use Rattle.reader.proofs.Says.{at_start, goes_on, breaks, wants, unwanted, passe
 use Rattle.reader.proofs.Writes.{around}
 use Rattle.reader.proofs.code.Code.ended.Goals as goal
 
-pub returns-in-err-expression : goal.returns-in-err-expression
-returns-in-err-expression c f law =
-    let p = err_from_is_err_and c.from-residual.result c.from-residual.ensures.1 in
+pub returns-in_err-expression : goal.returns-in_err-expression
+returns-in_err-expression c f law =
+    let p = err_from_is_err_and c.from_residual.result c.from_residual.ensures.1 in
     rw (p.1, p.2)
-    (breaks _ _ (at_start (λ g. ended c.args.depth (expression g c.args.depth) f) c.args.cursor.now) c.in-err-expression.ensures)
+    (breaks _ _ (at_start (λ g. ended c.args.depth (expression g c.args.depth) f) c.args.cursor.now) c.in_err-expression.ensures)
 
-pub returns-in-err-expect : goal.returns-in-err-expect
-returns-in-err-expect c f law =
-    let p = err_from_is_err_and c.from-residual-in-err-expect.result c.from-residual-in-err-expect.ensures.1 in
-    let r = c.in-ok-expression.ensures in
+pub returns-in_err-expect : goal.returns-in_err-expect
+returns-in_err-expect c f law =
+    let p = err_from_is_err_and c.from_residual-in_err-expect.result c.from_residual-in_err-expect.ensures.1 in
+    let r = c.in_ok-expression.ensures in
     let l = goes_on _ _ (at_start (λ g. ended c.args.depth (expression g c.args.depth) f) c.args.cursor.now) r.tree r.is r.moved.fall in
-    rw (p.1, p.2) (unwanted _ _ _ l c.in-err-expect.ensures)
+    rw (p.1, p.2) (unwanted _ _ _ l c.in_err-expect.ensures)
 
 pub returns : goal.returns
 returns c f law =
-    let r = c.in-ok-expression.ensures in
-    let w = c.in-ok-expect.ensures in
+    let r = c.in_ok-expression.ensures in
+    let w = c.in_ok-expect.ensures in
     let l = goes_on _ _ (at_start (λ g. ended c.args.depth (expression g c.args.depth) f) c.args.cursor.now) r.tree r.is r.moved.fall in
     let m = wants _ sign.Semicolon _ l w in
     let n = passed_one w.1 in
     record {
       tree = f r.tree;
       is = m.is;
-      code = around (vec_items c.args.self.now.nodes) (Begin c.args.at) c.args.node (flat r.tree) c.push-reserved.ensures.items r.code c.push-reserved-2.ensures.items ∙ ap (λ ns. vec_items c.args.self.now.nodes ++ ns) (sym (law r.tree));
+      code = around (vec_items c.args.self.now.nodes) (Begin c.args.at) c.args.node (flat r.tree) c.push_reserved.ensures.items r.code c.push_reserved-2.ensures.items ∙ ap (λ ns. vec_items c.args.self.now.nodes ++ ns) (sym (law r.tree));
       moved = record { on = omega arith; few = omega arith; fall = omega arith; spent = omega arith; grown = omega arith; cap = omega arith; functions = r.moved.functions; formals = r.moved.formals };
     }

@@ -7,15 +7,15 @@ pub loop-self-init : goal.loop-self-init
 loop-self-init c = programmed_none c.args.cursor.now c.args.self.now c.requires.few
 
 pub loop-self-preserved : goal.loop-self-preserved
-loop-self-preserved c = programmed_more c.loop-self.invariant (sym c.at-declaration.ensures ∙ c.loop-self-test.true) c.in-ok-function.ensures
+loop-self-preserved c = programmed_more c.loop-self.invariant (sym c.at_declaration.ensures ∙ c.loop-self-test.true) c.in_ok-function.ensures
 
-pub returns-in-err-function : goal.returns-in-err-function
-returns-in-err-function c =
-    let p = err_from_is_err_and c.from-residual.result c.from-residual.ensures.1 in
-    rw (p.1, p.2) (programmed_fails c.loop-self.invariant (sym c.at-declaration.ensures ∙ c.loop-self-test.true) c.in-err-function.ensures)
+pub returns-in_err-function : goal.returns-in_err-function
+returns-in_err-function c =
+    let p = err_from_is_err_and c.from_residual.result c.from_residual.ensures.1 in
+    rw (p.1, p.2) (programmed_fails c.loop-self.invariant (sym c.at_declaration.ensures ∙ c.loop-self-test.true) c.in_err-function.ensures)
 
-pub returns-then-not-at-end : goal.returns-then-not-at-end
-returns-then-not-at-end c = programmed_bad c.loop-self.invariant (sym c.at-declaration.ensures ∙ c.loop-self-test.false) (sym c.at-end.ensures ∙ c.if-not-at-end.true) c.wrong.ensures
+pub returns-then-not-at_end : goal.returns-then-not-at_end
+returns-then-not-at_end c = programmed_bad c.loop-self.invariant (sym c.at_declaration.ensures ∙ c.loop-self-test.false) (sym c.at_end.ensures ∙ c.if-not-at_end.true) c.wrong.ensures
 
 pub returns : goal.returns
-returns c = programmed_all c.loop-self.invariant (sym c.at-declaration.ensures ∙ c.loop-self-test.false) (sym c.at-end.ensures ∙ c.if-not-at-end.false)
+returns c = programmed_all c.loop-self.invariant (sym c.at_declaration.ensures ∙ c.loop-self-test.false) (sym c.at_end.ensures ∙ c.if-not-at_end.false)

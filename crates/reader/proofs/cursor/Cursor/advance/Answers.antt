@@ -9,10 +9,10 @@ use Rattle.reader.proofs.cursor.Cursor.advance.Goals as goal
 pub returns : goal.returns
 returns c =
     let old = c.args.self.now in
-    let told = c.next-token-self.ensures.first in
+    let told = c.next_token-self.ensures.first in
     record {
       rest =
-          ap (λ n. tokens_from n (item_of c.next-token-self.result ∷ cond (final (symbol_of c.next-token-self.result.token)) [] (to_come c.next-token-self.new.self))) (add-one old.taken)
+          ap (λ n. tokens_from n (item_of c.next_token-self.result ∷ cond (final (symbol_of c.next_token-self.result.token)) [] (to_come c.next_token-self.new.self))) (add-one old.taken)
           ∙ ap (tokens_from (suc old.taken)) (sym told ∙ sym (cond-false _ [] (to_come old.lexer) c.requires.token));
       taken = refl;
     }

@@ -6,31 +6,31 @@ use Rattle.reader.specs.Cursor.{left}
 use Rattle.reader.proofs.Says.{at_start, takes, leaves, stops, refuses, passed_one}
 use Rattle.reader.proofs.cursor.Cursor.typed.Goals as goal
 
-pub returns-in-default : goal.returns-in-default
-returns-in-default c =
-    refuses (leaves _ _ _ _ (at_start (λ g. typed c.args.depth c.args.mutable) c.args.self.now) c.in-default.ensures) c.wrong.ensures
+pub returns-in_default : goal.returns-in_default
+returns-in_default c =
+    refuses (leaves _ _ _ _ (at_start (λ g. typed c.args.depth c.args.mutable) c.args.self.now) c.in_default.ensures) c.wrong.ensures
 
-pub returns-in-err-take : goal.returns-in-err-take
-returns-in-err-take c =
-    let p = err_from_is_err_and c.from-residual.result c.from-residual.ensures.1 in
+pub returns-in_err-take : goal.returns-in_err-take
+returns-in_err-take c =
+    let p = err_from_is_err_and c.from_residual.result c.from_residual.ensures.1 in
     rw (p.1, p.2)
-    (stops _ _ _ _ (at_start (λ g. typed c.args.depth c.args.mutable) c.args.self.now) c.in-Some.ensures.0 c.in-err-take.ensures)
+    (stops _ _ _ _ (at_start (λ g. typed c.args.depth c.args.mutable) c.args.self.now) c.in-Some.ensures.0 c.in_err-take.ensures)
 
-pub returns-in-default-name : goal.returns-in-default-name
-returns-in-default-name c =
-    let l = takes _ _ _ _ (at_start (λ g. typed c.args.depth c.args.mutable) c.args.self.now) c.in-Some.ensures.0 c.in-ok-take.ensures in
-    refuses (leaves _ _ _ _ l c.in-default-name.ensures) c.wrong-in-default-name.ensures
+pub returns-in_default-name : goal.returns-in_default-name
+returns-in_default-name c =
+    let l = takes _ _ _ _ (at_start (λ g. typed c.args.depth c.args.mutable) c.args.self.now) c.in-Some.ensures.0 c.in_ok-take.ensures in
+    refuses (leaves _ _ _ _ l c.in_default-name.ensures) c.wrong-in_default-name.ensures
 
-pub returns-in-err-take-2 : goal.returns-in-err-take-2
-returns-in-err-take-2 c =
-    let p = err_from_is_err_and c.from-residual-in-err-take-2.result c.from-residual-in-err-take-2.ensures.1 in
-    let l = takes _ _ _ _ (at_start (λ g. typed c.args.depth c.args.mutable) c.args.self.now) c.in-Some.ensures.0 c.in-ok-take.ensures in
-    rw (p.1, p.2) (stops _ _ _ _ l c.in-Some-name.ensures.0 c.in-err-take-2.ensures)
+pub returns-in_err-take-2 : goal.returns-in_err-take-2
+returns-in_err-take-2 c =
+    let p = err_from_is_err_and c.from_residual-in_err-take-2.result c.from_residual-in_err-take-2.ensures.1 in
+    let l = takes _ _ _ _ (at_start (λ g. typed c.args.depth c.args.mutable) c.args.self.now) c.in-Some.ensures.0 c.in_ok-take.ensures in
+    rw (p.1, p.2) (stops _ _ _ _ l c.in-Some-name.ensures.0 c.in_err-take-2.ensures)
 
 pub returns : goal.returns
 returns c =
-    let a = c.in-ok-take.ensures in
-    let b = c.in-ok-take-2.ensures in
+    let a = c.in_ok-take.ensures in
+    let b = c.in_ok-take-2.ensures in
     let l = takes _ _ _ _ (at_start (λ g. typed c.args.depth c.args.mutable) c.args.self.now) c.in-Some.ensures.0 a in
     let m = takes _ _ _ _ l c.in-Some-name.ensures.0 b in
     let n = passed_one a in

@@ -2,15 +2,15 @@ use Rattle.std.proofs.Common.{[], arith}
 use Rattle.reader.proofs.Wholes.{empty_reads, script_from}
 use Rattle.reader.proofs.read_script.ReadScript.new.Goals as goal
 
-pub invariant-of-result-2 : goal.invariant-of-result-2
-invariant-of-result-2 c =
-    let s = c.in-ok-source.ensures.len in
-    let n = c.in-ok-nodes.ensures.len in
-    let f = c.in-ok-functions.ensures.len in
-    let d = c.in-ok-formals.ensures.len in (
-      c.in-ok-source.ensures.capacity,
+pub invariant_of-result-2 : goal.invariant_of-result-2
+invariant_of-result-2 c =
+    let s = c.in_ok-source.ensures.len in
+    let n = c.in_ok-nodes.ensures.len in
+    let f = c.in_ok-functions.ensures.len in
+    let d = c.in_ok-formals.ensures.len in (
+      c.in_ok-source.ensures.capacity,
       (
-        ∣ script_from [] _ [] c.in-ok-source.ensures.items empty_reads c.in-ok-nodes.ensures.items c.in-ok-functions.ensures.items c.in-ok-formals.ensures.items ∣₁,
+        ∣ script_from [] _ [] c.in_ok-source.ensures.items empty_reads c.in_ok-nodes.ensures.items c.in_ok-functions.ensures.items c.in_ok-formals.ensures.items ∣₁,
         (omega arith, (omega arith, (omega arith, (omega arith, tt)))),
       ),
     )

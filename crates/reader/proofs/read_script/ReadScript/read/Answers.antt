@@ -4,10 +4,10 @@ use Rattle.script.specs.Flat.{flat_program, formals_of, functions_of}
 use Rattle.reader.specs.Script.{refused}
 use Rattle.reader.proofs.Wholes.{empty_reads, script_from, roomy, outcome_reads, outcome_refuses, means, first_refusal_lem}
 use Rattle.reader.proofs.read_script.ReadScript.read.Goals as goal
-use Rattle.reader.proofs.read_script.ReadScript.read.Goals.{After-extend-from-slice}
+use Rattle.reader.proofs.read_script.ReadScript.read.Goals.{After-extend_from_slice}
 
-pub invariant-of-self : goal.invariant-of-self
-invariant-of-self c =
+pub invariant_of-self : goal.invariant_of-self
+invariant_of-self c =
     let old = c.args.self.now.source_room in
     let room : 8192 ≤ vec_capacity c.clear.new.self = omega arith in (
       room,
@@ -19,10 +19,10 @@ invariant-of-self c =
 
 pub program-requires : goal.program-requires
 program-requires c =
-    roomy c.args.source.now c.new-cursor.result c.new-cursor.ensures c.clear-2.new.self c.clear-2.ensures.nodes-len c.clear-2.ensures.functions-len c.clear-2.ensures.formals-len
+    roomy c.args.source.now c.new-cursor.result c.new-cursor.ensures c.clear-2.new.self c.clear-2.ensures.nodes_len c.clear-2.ensures.functions_len c.clear-2.ensures.formals_len
 
-pub invariant-of-self-in-Err : goal.invariant-of-self-in-Err
-invariant-of-self-in-Err c =
+pub invariant_of-self-in-Err : goal.invariant_of-self-in-Err
+invariant_of-self-in-Err c =
     let old = c.args.self.now.source_room in
     let room : 8192 ≤ vec_capacity c.clear.new.self = omega arith in (
       room,
@@ -39,27 +39,27 @@ returns-in-Err c = (
 )
 
 -- the source is kept, since there is room for it
-filled : (c : After-extend-from-slice) → vec_items c.extend-from-slice.new.self ≡ c.args.source.now
+filled : (c : After-extend_from_slice) → vec_items c.extend_from_slice.new.self ≡ c.args.source.now
 filled c =
     let old = c.args.self.now.source_room in
     let fits : vec_len c.clear.new.self + length c.args.source.now ≤ vec_capacity c.clear.new.self = omega arith in
-    c.extend-from-slice.ensures.items ∙ cond-true (is_ok c.extend-from-slice.result) _ _ (c.extend-from-slice.ensures.succeeds fits) ∙ ap (λ l. l ++ c.args.source.now) c.clear.ensures.items
+    c.extend_from_slice.ensures.items ∙ cond-true (is_ok c.extend_from_slice.result) _ _ (c.extend_from_slice.ensures.succeeds fits) ∙ ap (λ l. l ++ c.args.source.now) c.clear.ensures.items
 
-pub invariant-of-self-2 : goal.invariant-of-self-2
-invariant-of-self-2 c =
+pub invariant_of-self-2 : goal.invariant_of-self-2
+invariant_of-self-2 c =
     let old = c.args.self.now.source_room in
-    let room : 8192 ≤ vec_capacity c.extend-from-slice.new.self = omega arith in
-    let w = c.in-default.ensures in
+    let room : 8192 ≤ vec_capacity c.extend_from_slice.new.self = omega arith in
+    let w = c.in_default.ensures in
     let a = w.written in
     let b = c.clear-2.ensures in
-    let few : vec_len c.extend-from-slice.new.self ≤ 8192 =
-    let long = c.extend-from-slice.new.self.ok.0 ∙ ap length (filled c) in
+    let few : vec_len c.extend_from_slice.new.self ≤ 8192 =
+    let long = c.extend_from_slice.new.self.ok.0 ∙ ap length (filled c) in
     omega arith in (
       room,
       (
         ∣ script_from c.args.source.now _ w.tree (filled c) (outcome_reads c.args.source.now c.new-cursor.result c.new-cursor.ensures w)
             (a.nodes ∙ ap (λ l. l ++ flat_program w.tree) b.nodes)
-            (a.functions ∙ (λ i. b.functions i ++ functions_of (b.formals-len i) (b.nodes-len i) w.tree))
+            (a.functions ∙ (λ i. b.functions i ++ functions_of (b.formals_len i) (b.nodes_len i) w.tree))
             (a.formals ∙ ap (λ l. l ++ formals_of w.tree) b.formals) ∣₁,
         (few, (omega arith, (omega arith, (omega arith, tt)))),
       ),
@@ -67,15 +67,15 @@ invariant-of-self-2 c =
 
 pub returns : goal.returns
 returns c =
-    let w = c.in-default.ensures in
+    let w = c.in_default.ensures in
     let a = w.written in
     let b = c.clear-2.ensures in
     record {
       small = c.if-source-gt8192.false;
-      source = filled (goal.at.returns c).After-extend-from-slice;
+      source = filled (goal.at.returns c).After-extend_from_slice;
       program = w.tree;
       means = means c.args.source.now w.tree (outcome_reads c.args.source.now c.new-cursor.result c.new-cursor.ensures w);
       nodes = a.nodes ∙ ap (λ l. l ++ flat_program w.tree) b.nodes;
-      functions = a.functions ∙ (λ i. b.functions i ++ functions_of (b.formals-len i) (b.nodes-len i) w.tree);
+      functions = a.functions ∙ (λ i. b.functions i ++ functions_of (b.formals_len i) (b.nodes_len i) w.tree);
       formals = a.formals ∙ ap (λ l. l ++ formals_of w.tree) b.formals;
     }

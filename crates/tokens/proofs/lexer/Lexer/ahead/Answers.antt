@@ -10,7 +10,7 @@ returns-then-self c = record { value = sym (front_end _ _ c.if-self.true); withi
 pub returns : goal.returns
 returns c =
     let l = c.args.self.now in
-    let is : front_of c.ahead-by.result ≡ front (rest l) =
-    c.ahead-by.ensures ∙ ap (λ k. front_by k (here l) (beyond l)) c.class-at.ensures ∙ sym (front_at l.source.now l.pos c.if-self.false)
+    let is : front_of c.ahead_by.result ≡ front (rest l) =
+    c.ahead_by.ensures ∙ ap (λ k. front_by k (here l) (beyond l)) c.class_at.ensures ∙ sym (front_at l.source.now l.pos c.if-self.false)
     in
-    record { value = is; within = advances l c.ahead-by.result is }
+    record { value = is; within = advances l c.ahead_by.result is }

@@ -10,4 +10,4 @@ returns c =
     let told = c.new.ensures in
     let start : to_come c.new.result ≡ lexed 0 s = λ i. lexed (told.place i) (drop (told.place i) (told.source i)) in
     let exact = is_exact 0 s in
-    record { all = lexed 0 s; derived = exact.0; only = exact.1; first = c.take-all.ensures ∙ ap (take 2049) start }
+    record { all = lexed 0 s; derived = exact.0; only = exact.1; first = c.take_all.ensures ∙ ap (take 2049) start }

@@ -8,9 +8,9 @@ use Rattle.counting.proofs.counting_heap.calls.CountingHeapHeap.hold.Goals as go
 pub write-requires : goal.write-requires
 write-requires c = cell_within _ _ c.in-Some.ensures.cell refl
 
-pub invariant-of-self : goal.invariant-of-self
-invariant-of-self c =
-    (sound_holds (places_in c.args.self.now.store) c.args.self.now.free c.args.place.at (c.in-Some.pair.holds + 1) c.args.self.now.sound c.in-Some.ensures.cell (omega arith) c.write.ensures.cells, tt)
+pub invariant_of-self : goal.invariant_of-self
+invariant_of-self c =
+    record { sound = sound_holds (places_in c.args.self.now.store) c.args.self.now.free c.args.place.at (c.in-Some.pair.holds + 1) c.args.self.now.sound c.in-Some.ensures.cell (omega arith) c.write.ensures.cells }
 
 pub returns-else-pair : goal.returns-else-pair
 returns-else-pair c = record {

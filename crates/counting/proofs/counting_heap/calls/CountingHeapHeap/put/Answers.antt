@@ -4,8 +4,8 @@ use Rattle.counting.specs.Whole.{model_of}
 use Rattle.counting.proofs.Calls.{puts_done}
 use Rattle.counting.proofs.counting_heap.calls.CountingHeapHeap.put.Goals as goal
 
-pub returns-else-not-same-kind : goal.returns-else-not-same-kind
-returns-else-not-same-kind c =
+pub returns-else-not-same_kind : goal.returns-else-not-same_kind
+returns-else-not-same_kind c =
     let room = c.in-Some.ensures.room in
     record {
       call = puts_done (model_of c.args.self.now) _ c.args.place c.args.side c.args.value (sym (ap is_taken room)) (search rules)

@@ -7,5 +7,5 @@ use Rattle.keep_all.proofs.kept.calls.KeepAllHeapHeap.hold.Goals as goal
 pub write-requires : goal.write-requires
 write-requires c = record {
   within = within (model_of c.args.self.now) c.args.place.at (search rules);
-  closed = holds_closed c.args.self.now c.args.place.at _ c.at-cell.result c.with-holds.result c.at-cell.ensures c.with-holds.ensures;
+  closed = holds_closed c.args.self.now c.args.place.at _ c.at-cell.result c.with_holds.result c.at-cell.ensures c.with_holds.ensures;
 }

@@ -7,5 +7,5 @@ use Rattle.keep_all.proofs.kept.calls.KeepAllHeapHeap.put.Goals as goal
 pub write-requires : goal.write-requires
 write-requires c = record {
   within = within (model_of c.args.self.now) c.args.place.at (search rules);
-  closed = slot_closed c.args.self.now c.args.place.at _ c.args.value c.at-cell.result c.with-slot.result c.at-cell.ensures c.with-slot.ensures (search rules);
+  closed = slot_closed c.args.self.now c.args.place.at _ c.args.value c.at-cell.result c.with_slot.result c.at-cell.ensures c.with_slot.ensures (search rules);
 }
