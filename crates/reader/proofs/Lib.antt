@@ -3,7 +3,7 @@ pub mod Paths
 pub mod Chains
 pub mod Forms
 pub mod Lists
-pub mod why_deep
+pub mod Deep
 pub mod Operands
 pub mod Levels
 pub mod Conditions

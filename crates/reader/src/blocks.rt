@@ -15,7 +15,7 @@ use script::Node;
 use tokens::{Keyword, Mark};
 
 impl Code {
-    #[cycle(block_body_choice_repetition_statement_statements)]
+    #[cycle(blocks)]
     pub(crate) fn statement(&mut self, cursor: &mut Cursor, depth: usize) -> Result<(), ReadRefusal>
         requires { Ready 0 cursor.old self.old }
         ensures { States (λ g. statement-at g depth) flat_stmt cursor.old cursor.new self.old self.new result }
@@ -53,7 +53,7 @@ impl Code {
     }
 
     // An if, after its keyword. What it skips is written once its length is known.
-    #[cycle(block_body_choice_repetition_statement_statements)]
+    #[cycle(blocks)]
     fn choice(&mut self, cursor: &mut Cursor, depth: usize, at: usize) -> Result<(), ReadRefusal>
         requires spare { Spare 2 cursor.old self.old }
         requires deep { depth ≤ 64 }
@@ -76,7 +76,7 @@ impl Code {
     }
 
     // A while, after its keyword.
-    #[cycle(block_body_choice_repetition_statement_statements)]
+    #[cycle(blocks)]
     fn repetition(
         &mut self,
         cursor: &mut Cursor,
@@ -98,7 +98,7 @@ impl Code {
     }
 
     // A statement that is a scope of its own.
-    #[cycle(block_body_choice_repetition_statement_statements)]
+    #[cycle(blocks)]
     fn body(&mut self, cursor: &mut Cursor, depth: usize) -> Result<(), ReadRefusal>
         requires { Spare 1 cursor.old self.old }
         ensures { Goes 1 (λ g. statement-at g depth) flat_body cursor.old cursor.new self.old self.new result }
@@ -109,7 +109,7 @@ impl Code {
     }
 
     // A block, after its opening brace.
-    #[cycle(block_body_choice_repetition_statement_statements)]
+    #[cycle(blocks)]
     fn block(&mut self, cursor: &mut Cursor, depth: usize, at: usize) -> Result<(), ReadRefusal>
         requires spare { Spare 2 cursor.old self.old }
         requires deep { depth ≤ 64 }
@@ -123,7 +123,7 @@ impl Code {
     }
 
     // Statements, as long as one begins.
-    #[cycle(block_body_choice_repetition_statement_statements)]
+    #[cycle(blocks)]
     pub(crate) fn statements(
         &mut self,
         cursor: &mut Cursor,

@@ -43,7 +43,7 @@ impl Code {
     }
 
     // The actuals of a call, after its opening parenthesis, with the closing one; the answer is their number.
-    #[cycle(actuals_bracket_chain_compared_conditions_inside_joined_level_named_negation_operand)]
+    #[cycle(terms)]
     pub(crate) fn actuals(
         &mut self,
         cursor: &mut Cursor,
@@ -69,7 +69,7 @@ impl Code {
     }
 
     // A variable or a call, after its name.
-    #[cycle(actuals_bracket_chain_compared_conditions_inside_joined_level_named_negation_operand)]
+    #[cycle(terms)]
     fn named(&mut self, cursor: &mut Cursor, depth: usize, name: Name) -> Result<(), ReadRefusal>
         requires { Spare 2 cursor.old self.old }
         ensures { Goes 2 (λ g. named depth (suc g) (expression (suc g) (suc depth)) name) flat cursor.old cursor.new self.old self.new result }
@@ -89,7 +89,7 @@ impl Code {
     }
 
     // What stands in parentheses.
-    #[cycle(actuals_bracket_chain_compared_conditions_inside_joined_level_named_negation_operand)]
+    #[cycle(terms)]
     fn inside(
         &mut self,
         cursor: &mut Cursor,
@@ -106,7 +106,7 @@ impl Code {
     }
 
     // A cast or a group, after its opening parenthesis.
-    #[cycle(actuals_bracket_chain_compared_conditions_inside_joined_level_named_negation_operand)]
+    #[cycle(terms)]
     fn bracket(
         &mut self,
         cursor: &mut Cursor,
@@ -131,7 +131,7 @@ impl Code {
         Ok(thing)
     }
 
-    #[cycle(actuals_bracket_chain_compared_conditions_inside_joined_level_named_negation_operand)]
+    #[cycle(terms)]
     fn operand(
         &mut self,
         cursor: &mut Cursor,
@@ -172,7 +172,7 @@ impl Code {
     }
 
     // A chain of binary operators: 1 for products, 2 for sums of these, 3 for dots of these, and 0 for an operand.
-    #[cycle(actuals_bracket_chain_compared_conditions_inside_joined_level_named_negation_operand)]
+    #[cycle(terms)]
     fn level(
         &mut self,
         cursor: &mut Cursor,
@@ -199,7 +199,7 @@ impl Code {
     }
 
     // The rest of a chain of binary operators, after its first operand: that begins at the offset `start`, and its code at the node `from`.
-    #[cycle(actuals_bracket_chain_compared_conditions_inside_joined_level_named_negation_operand)]
+    #[cycle(terms)]
     fn chain(
         &mut self,
         cursor: &mut Cursor,
@@ -230,7 +230,7 @@ impl Code {
     }
 
     // A negation or a comparison; where it need not be a condition, an expression.
-    #[cycle(actuals_bracket_chain_compared_conditions_inside_joined_level_named_negation_operand)]
+    #[cycle(terms)]
     fn negation(
         &mut self,
         cursor: &mut Cursor,
@@ -256,7 +256,7 @@ impl Code {
     }
 
     // A comparison after its left side, whose code begins at the node `from`.
-    #[cycle(actuals_bracket_chain_compared_conditions_inside_joined_level_named_negation_operand)]
+    #[cycle(terms)]
     fn compared(
         &mut self,
         cursor: &mut Cursor,
@@ -284,7 +284,7 @@ impl Code {
     }
 
     // A chain of conditions: 1 for `&&`, 2 for `||` of these, and 0 for a negation or a comparison.
-    #[cycle(actuals_bracket_chain_compared_conditions_inside_joined_level_named_negation_operand)]
+    #[cycle(terms)]
     fn conditions(
         &mut self,
         cursor: &mut Cursor,
@@ -310,7 +310,7 @@ impl Code {
     }
 
     // The rest of a chain of conditions, after its first one, whose code begins at the node `from`.
-    #[cycle(actuals_bracket_chain_compared_conditions_inside_joined_level_named_negation_operand)]
+    #[cycle(terms)]
     fn joined(
         &mut self,
         cursor: &mut Cursor,

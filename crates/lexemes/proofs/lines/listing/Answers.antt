@@ -5,13 +5,13 @@ use Rattle.lexemes.specs.Listing.{lines_from}
 use Rattle.lexemes.proofs.Pieces.{lines_more, long_listing, short_listing}
 use Rattle.lexemes.proofs.lines.listing.Goals as goal
 
-pub returns-then-source-gt-MOST-BYTES : goal.returns-then-source-gt-MOST-BYTES
-returns-then-source-gt-MOST-BYTES c items lexes =
+pub returns-then-source-gt-MOST_BYTES : goal.returns-then-source-gt-MOST_BYTES
+returns-then-source-gt-MOST_BYTES c items lexes =
     c.in_ok-push.ensures
     ∙ ap (λ l. l ++ c.as_bytes.result.now) c.new-text.ensures.items
     ∙ c.as_bytes.ensures.value
     ∙ c.in_ok-line.ensures
-    ∙ long_listing c.args.source.now items c.if-source-gt-MOST-BYTES.true
+    ∙ long_listing c.args.source.now items c.if-source-gt-MOST_BYTES.true
 
 pub loop-index-init : goal.loop-index-init
 unfolding lines_from
@@ -25,4 +25,4 @@ returns c items lexes =
     let placed = c.items-items.result.now in
     let told = c.fill.ensures in
     let whole = ap (map item_of) (take_all c.loop-index.index placed (omega arith) ∙ c.items-items.ensures) ∙ told.first ∙ ap (take 2049) (sym (told.only items lexes)) in
-    c.loop-index.invariant ∙ ap (lines_from c.args.source.now 0) whole ∙ short_listing c.args.source.now items c.if-source-gt-MOST-BYTES.false
+    c.loop-index.invariant ∙ ap (lines_from c.args.source.now 0) whole ∙ short_listing c.args.source.now items c.if-source-gt-MOST_BYTES.false

@@ -20,4 +20,4 @@ returns-then-at_keyword c =
 pub returns : goal.returns
 returns c =
     let l = leaves _ _ _ _ (at_start (λ g. declarator c.args.depth) c.args.self.now) (sym c.at_keyword.ensures.value ∙ c.if-at_keyword.false) in
-    headed c.typed.result _ l (omega arith) c.typed.ensures
+    headed c.typed-2.result _ l (omega arith) c.typed-2.ensures

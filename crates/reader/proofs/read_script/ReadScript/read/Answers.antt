@@ -9,13 +9,15 @@ use Rattle.reader.proofs.read_script.ReadScript.read.Goals.{After-extend_from_sl
 pub invariant_of-self : goal.invariant_of-self
 invariant_of-self c =
     let old = c.args.self.now.source_room in
-    let room : 8192 ≤ vec_capacity c.clear.new.self = omega arith in (
-      room,
-      (
-        ∣ script_from [] _ [] c.clear.ensures.items empty_reads c.clear-2.ensures.nodes c.clear-2.ensures.functions c.clear-2.ensures.formals ∣₁,
-        (omega arith, (omega arith, (omega arith, (omega arith, tt)))),
-      ),
-    )
+    let room : 8192 ≤ vec_capacity c.clear.new.self = omega arith in record {
+      source_room = room;
+      script =
+          ∣ script_from [] _ [] c.clear.ensures.items empty_reads c.clear-2.ensures.nodes c.clear-2.ensures.functions c.clear-2.ensures.formals ∣₁;
+      source_few = omega arith;
+      nodes_few = omega arith;
+      functions_few = omega arith;
+      formals_few = omega arith;
+    }
 
 pub program-requires : goal.program-requires
 program-requires c =
@@ -24,13 +26,15 @@ program-requires c =
 pub invariant_of-self-in-Err : goal.invariant_of-self-in-Err
 invariant_of-self-in-Err c =
     let old = c.args.self.now.source_room in
-    let room : 8192 ≤ vec_capacity c.clear.new.self = omega arith in (
-      room,
-      (
-        ∣ script_from [] _ [] c.clear.ensures.items empty_reads c.clear-in-Err.ensures.nodes c.clear-in-Err.ensures.functions c.clear-in-Err.ensures.formals ∣₁,
-        (omega arith, (omega arith, (omega arith, (omega arith, tt)))),
-      ),
-    )
+    let room : 8192 ≤ vec_capacity c.clear.new.self = omega arith in record {
+      source_room = room;
+      script =
+          ∣ script_from [] _ [] c.clear.ensures.items empty_reads c.clear-in-Err.ensures.nodes c.clear-in-Err.ensures.functions c.clear-in-Err.ensures.formals ∣₁;
+      source_few = omega arith;
+      nodes_few = omega arith;
+      functions_few = omega arith;
+      formals_few = omega arith;
+    }
 
 pub returns-in-Err : goal.returns-in-Err
 returns-in-Err c = (
@@ -54,16 +58,18 @@ invariant_of-self-2 c =
     let b = c.clear-2.ensures in
     let few : vec_len c.extend_from_slice.new.self ≤ 8192 =
     let long = c.extend_from_slice.new.self.ok.0 ∙ ap length (filled c) in
-    omega arith in (
-      room,
-      (
-        ∣ script_from c.args.source.now _ w.tree (filled c) (outcome_reads c.args.source.now c.new-cursor.result c.new-cursor.ensures w)
-            (a.nodes ∙ ap (λ l. l ++ flat_program w.tree) b.nodes)
-            (a.functions ∙ (λ i. b.functions i ++ functions_of (b.formals_len i) (b.nodes_len i) w.tree))
-            (a.formals ∙ ap (λ l. l ++ formals_of w.tree) b.formals) ∣₁,
-        (few, (omega arith, (omega arith, (omega arith, tt)))),
-      ),
-    )
+    omega arith in record {
+      source_room = room;
+      script =
+          ∣ script_from c.args.source.now _ w.tree (filled c) (outcome_reads c.args.source.now c.new-cursor.result c.new-cursor.ensures w)
+          (a.nodes ∙ ap (λ l. l ++ flat_program w.tree) b.nodes)
+          (a.functions ∙ (λ i. b.functions i ++ functions_of (b.formals_len i) (b.nodes_len i) w.tree))
+          (a.formals ∙ ap (λ l. l ++ formals_of w.tree) b.formals) ∣₁;
+      source_few = few;
+      nodes_few = omega arith;
+      functions_few = omega arith;
+      formals_few = omega arith;
+    }
 
 pub returns : goal.returns
 returns c =

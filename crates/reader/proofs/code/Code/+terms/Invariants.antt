@@ -5,7 +5,7 @@ use Rattle.reader.specs.Cursor.{left}
 use Rattle.reader.specs.Terms.{chained, joining_on}
 use Rattle.reader.proofs.Chains.{Chained}
 use Rattle.reader.proofs.Lists.{Listed}
-use Rattle.reader.proofs.code.Code.+actuals_bracket_chain_compared_conditions_inside_joined_level_named_negation_operand.Given as goal
+use Rattle.reader.proofs.code.Code.+terms.Given as goal
 
 abbrev pub decreases-actuals : goal.decreases-actuals
 decreases-actuals l = 12 * length (left l.cursor.now) + 9

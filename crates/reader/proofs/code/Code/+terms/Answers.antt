@@ -2,11 +2,11 @@ use Rattle.std.proofs.Common.{suc, ◌-◌, sym, ap, ◌∙◌, arith}
 use Rattle.std.proofs.lemmas.Result.{err_from_is_err_and}
 use Rattle.grammar.specs.Parse.{expression}
 use Rattle.reader.proofs.Lists.{start_list, list_turn, list_done, list_open, list_stuck, list_broke, list_fails, list_none, list_none_stuck}
-use Rattle.reader.proofs.why_deep.{passed_in, stuck_in, stops_in, went_in}
+use Rattle.reader.proofs.Deep.{passed_in, stuck_in, stops_in, went_in}
 use Rattle.reader.proofs.Operands.{named_variable, named_stuck, named_broke, named_call, inside_merged, inside_plain, cast_stuck, cast_open, cast_broke, cast_done, group_broke, group_open, group_done, constant_stuck, constant_done, name_stuck, name_broke, name_done, nil_stuck, nil_done, minus_stuck, minus_broke, minus_done, operand_wrong, bracket_stuck, bracket_done}
 use Rattle.reader.proofs.Levels.{level_operand, level_fails, level_condition, level_broke, level_done, operators_done, operators_stuck, operators_broke, operators_again}
 use Rattle.reader.proofs.Conditions.{compared_stuck, compared_broke, compared_done, compared_wrong, compared_none, not_stuck, not_broke, not_done, thing_broke, thing_condition, thing_expression, conditions_one, conditions_fail, conditions_expression, conditions_broke, conditions_done, joins_done, joins_stuck, joins_broke, joins_again}
-use Rattle.reader.proofs.code.Code.+actuals_bracket_chain_compared_conditions_inside_joined_level_named_negation_operand.Goals as goal
+use Rattle.reader.proofs.code.Code.+terms.Goals as goal
 
 -- actuals
 
@@ -171,16 +171,16 @@ level-returns-in_err-level t c =
     let p = err_from_is_err_and c.from_residual.result c.from_residual.ensures.1 in
     rw (p.1, p.2) (level_fails c.args.merged c.args.n c.args.depth (omega arith) c.in_err-level.ensures)
 
-pub level-returns-in_err-chain : goal.level-returns-in_err-chain
-level-returns-in_err-chain t c =
-    let p = err_from_is_err_and c.from_residual-in_err-chain.result c.from_residual-in_err-chain.ensures.1 in
-    rw (p.1, p.2) (level_broke c.args.merged c.args.n c.args.depth (omega arith) c.in_ok-level.ensures c.in-Expression.is c.len-from.ensures c.in_err-chain.ensures)
+pub level-returns-in_err-chain-in-Expression : goal.level-returns-in_err-chain-in-Expression
+level-returns-in_err-chain-in-Expression t c =
+    let p = err_from_is_err_and c.from_residual-in_err-chain-in-Expression.result c.from_residual-in_err-chain-in-Expression.ensures.1 in
+    rw (p.1, p.2) (level_broke c.args.merged c.args.n c.args.depth (omega arith) c.in_ok-level.ensures c.in-Expression.is c.len-from.ensures c.in_err-chain-in-Expression.ensures)
 
 pub level-returns-in-Condition : goal.level-returns-in-Condition
 level-returns-in-Condition t c = level_condition c.args.merged c.args.n c.args.depth (omega arith) c.in_ok-level.ensures c.in-Condition.is
 
-pub level-returns-in_ok-chain : goal.level-returns-in_ok-chain
-level-returns-in_ok-chain t c = level_done c.args.merged c.args.n c.args.depth (omega arith) c.in_ok-level.ensures c.in-Expression.is c.len-from.ensures c.requires.ready.few c.in_ok-chain.ensures
+pub level-returns-in_ok-chain-in-Expression : goal.level-returns-in_ok-chain-in-Expression
+level-returns-in_ok-chain-in-Expression t c = level_done c.args.merged c.args.n c.args.depth (omega arith) c.in_ok-level.ensures c.in-Expression.is c.len-from.ensures c.requires.ready.few c.in_ok-chain-in-Expression.ensures
 
 -- chain
 
@@ -257,16 +257,16 @@ conditions-returns-in_err-conditions t c =
     let p = err_from_is_err_and c.from_residual.result c.from_residual.ensures.1 in
     rw (p.1, p.2) (conditions_fail c.args.must c.args.n c.args.depth (omega arith) c.in_err-conditions.ensures)
 
-pub conditions-returns-in_err-joined : goal.conditions-returns-in_err-joined
-conditions-returns-in_err-joined t c =
-    let p = err_from_is_err_and c.from_residual-in_err-joined.result c.from_residual-in_err-joined.ensures.1 in
-    rw (p.1, p.2) (conditions_broke c.args.must c.args.n c.args.depth (omega arith) c.in_ok-conditions.ensures c.in-Condition.is c.len-from.ensures c.in_err-joined.ensures)
+pub conditions-returns-in_err-joined-in-Condition : goal.conditions-returns-in_err-joined-in-Condition
+conditions-returns-in_err-joined-in-Condition t c =
+    let p = err_from_is_err_and c.from_residual-in_err-joined-in-Condition.result c.from_residual-in_err-joined-in-Condition.ensures.1 in
+    rw (p.1, p.2) (conditions_broke c.args.must c.args.n c.args.depth (omega arith) c.in_ok-conditions.ensures c.in-Condition.is c.len-from.ensures c.in_err-joined-in-Condition.ensures)
 
 pub conditions-returns-in-Expression : goal.conditions-returns-in-Expression
 conditions-returns-in-Expression t c = conditions_expression c.args.must c.args.n c.args.depth (omega arith) c.in_ok-conditions.ensures c.in-Expression.is
 
-pub conditions-returns-in_ok-joined : goal.conditions-returns-in_ok-joined
-conditions-returns-in_ok-joined t c = conditions_done c.args.must c.args.n c.args.depth (omega arith) c.in_ok-conditions.ensures c.in-Condition.is c.len-from.ensures c.requires.ready.few c.in_ok-joined.ensures
+pub conditions-returns-in_ok-joined-in-Condition : goal.conditions-returns-in_ok-joined-in-Condition
+conditions-returns-in_ok-joined-in-Condition t c = conditions_done c.args.must c.args.n c.args.depth (omega arith) c.in_ok-conditions.ensures c.in-Condition.is c.len-from.ensures c.requires.ready.few c.in_ok-joined-in-Condition.ensures
 
 -- joined
 

@@ -1,6 +1,6 @@
 use Rattle.std.proofs.Common.{◌+◌, ◌-◌, ◌*◌}
 use Rattle.reader.proofs.Turns.{Listed}
-use Rattle.reader.proofs.code.Code.+block_body_choice_repetition_statement_statements.Given as goal
+use Rattle.reader.proofs.code.Code.+blocks.Given as goal
 
 abbrev pub decreases-block : goal.decreases-block
 decreases-block l = 4 * (2048 - l.cursor.now.taken) + 3

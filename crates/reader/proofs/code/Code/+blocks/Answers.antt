@@ -13,7 +13,7 @@ use Rattle.reader.proofs.Writes.{around, reads_on, opens_reads}
 use Rattle.reader.proofs.Joins.{chose_then, chose_else, repeated}
 use Rattle.reader.proofs.Turns.{listed_none, listed_more, listed_all, turn_fails}
 use Rattle.reader.proofs.Branches.{to_declaration, takes_name, takes_if, takes_while, takes_free, takes_print, takes_return, takes_brace, stops_name, stops_if, stops_while, stops_free, stops_print, stops_return, stops_brace}
-use Rattle.reader.proofs.code.Code.+block_body_choice_repetition_statement_statements.Goals as goal
+use Rattle.reader.proofs.code.Code.+blocks.Goals as goal
 
 -- statement
 
