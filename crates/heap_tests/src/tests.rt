@@ -4,6 +4,7 @@ use counting::CountingHeap;
 use heap::Address;
 use keep_all::KeepAllHeap;
 use std::alloc::Global;
+use std::test::Fail;
 
 fn keep_all_heap(alloc: Global, cells: usize) -> Result<KeepAllHeap, Fail> {
     Ok(KeepAllHeap::new(vec![in alloc; keep_all::Cell::new(); cells]?))

@@ -98,9 +98,15 @@ fn read_text(heap: Global, source: &[u8]) -> Result<String, AllocError> {
     }
 }
 
-fn check_read(rt: &impl Abort, heap: Global, source: &[u8], words: &str) -> Result<(), Fail> {
+fn check_read(
+    rt: &impl Abort,
+    heap: Global,
+    source: &[u8],
+    words: &str,
+    what: &str,
+) -> Result<(), Fail> {
     let text = read_text(heap, source)?;
-    assert_eq!(rt; text.as_str(), words);
+    assert_eq!(rt; text.as_str(), words, "of {what:?}");
     Ok(())
 }
 
@@ -108,16 +114,14 @@ fn check_read(rt: &impl Abort, heap: Global, source: &[u8], words: &str) -> Resu
 fn check_bodies(rt: &impl Abort, heap: Global, rows: &[(&str, &str)]) -> Result<(), Fail> {
     for (body, words) in rows {
         let source = format!(in heap; "int main(int a) {{ {body} }}")?;
-        check_read(rt, heap, source.as_bytes(), words).note(format_args!("the body is {body:?}"))?;
+        check_read(rt, heap, source.as_bytes(), words, body)?;
     }
     Ok(())
 }
 
 fn check_sources(rt: &impl Abort, heap: Global, rows: &[(&str, &str)]) -> Result<(), Fail> {
     for (source, words) in rows {
-        check_read(rt, heap, source.as_bytes(), words).note(format_args!(
-            "the source is {source:?}"
-        ))?;
+        check_read(rt, heap, source.as_bytes(), words, source)?;
     }
     Ok(())
 }
@@ -258,7 +262,7 @@ fn refusals(rt: HostRuntime) -> Result<(), Fail> {
     let heap = rt.alloc();
     check_bodies(&rt, heap, &WRONG)?;
     check_sources(&rt, heap, &SOURCES)?;
-    check_read(&rt, heap, b"int f() { \xff", "2 at 10").note("a byte above 127")
+    check_read(&rt, heap, b"int f() { \xff", "2 at 10", "a byte above 127")
 }
 
 // A body: what it begins with, so many times the front, the middle, and so many times the back.
@@ -283,18 +287,24 @@ fn nested(
     Ok(text)
 }
 
-fn check_verdict(rt: &impl Abort, heap: Global, source: &[u8], verdict: &str) -> Result<(), Fail> {
+fn check_verdict(
+    rt: &impl Abort,
+    heap: Global,
+    source: &[u8],
+    verdict: &str,
+    what: &str,
+) -> Result<(), Fail> {
     let mut script = ReadScript::new(heap)?;
     match script.read(source) {
         Ok(()) => {
-            assert_eq!(rt; "read", verdict);
+            assert_eq!(rt; "read", verdict, "of {what}");
             Ok(())
         },
         Err(refusal) => {
             let number = refusal.number();
             let at = refusal.at;
             let text = format!(in heap; "{number} at {at}")?;
-            assert_eq!(rt; text.as_str(), verdict);
+            assert_eq!(rt; text.as_str(), verdict, "of {what}");
             Ok(())
         }
     }
@@ -330,13 +340,12 @@ fn limits(rt: HostRuntime) -> Result<(), Fail> {
     ];
     for (count, front, middle, back, verdict) in rows {
         let source = nested(heap, "", count, front, middle, back)?;
-        check_verdict(&rt, heap, source.as_bytes(), verdict).note(format_args!(
-            "{count} times {front:?} and {middle:?}"
-        ))?;
+        let what = format!(in heap; "{count} times {front:?} and {middle:?}")?;
+        check_verdict(&rt, heap, source.as_bytes(), verdict, &what)?;
     }
     let long = vec![in heap; b' '; 8193]?;
-    check_read(&rt, heap, &long, "1 at 8192").note("8,193 blanks")?;
-    check_read(&rt, heap, &long[0..8192], "").note("8,192 blanks")
+    check_read(&rt, heap, &long, "1 at 8192", "8,193 blanks")?;
+    check_read(&rt, heap, &long[0..8192], "", "8,192 blanks")
 }
 
 // Parentheses, prefixes, casts and calls inside a return.
@@ -359,9 +368,8 @@ fn deep_expressions(rt: HostRuntime) -> Result<(), Fail> {
         let mut source = nested(heap, begin, count, front, middle, back)?;
         let _ = source.pop();
         source.push_str(";}")?;
-        check_verdict(&rt, heap, source.as_bytes(), verdict).note(format_args!(
-            "{count} times {front:?}"
-        ))?;
+        let what = format!(in heap; "{count} times {front:?}")?;
+        check_verdict(&rt, heap, source.as_bytes(), verdict, &what)?;
     }
     Ok(())
 }
@@ -378,9 +386,8 @@ fn deep_conditions(rt: HostRuntime) -> Result<(), Fail> {
     ];
     for (count, front, middle, back, verdict) in rows {
         let source = nested(heap, "if (", count, front, middle, back)?;
-        check_verdict(&rt, heap, source.as_bytes(), verdict).note(format_args!(
-            "{count} times {front:?} and {middle:?}"
-        ))?;
+        let what = format!(in heap; "{count} times {front:?} and {middle:?}")?;
+        check_verdict(&rt, heap, source.as_bytes(), verdict, &what)?;
     }
     Ok(())
 }

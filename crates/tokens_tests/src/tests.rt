@@ -51,17 +51,21 @@ fn items_text(heap: Global, source: &[u8]) -> Result<String, AllocError> {
     Ok(text)
 }
 
-fn check_items(rt: &impl Abort, heap: Global, source: &[u8], items: &str) -> Result<(), Fail> {
+fn check_items(
+    rt: &impl Abort,
+    heap: Global,
+    source: &[u8],
+    items: &str,
+    what: &str,
+) -> Result<(), Fail> {
     let text = items_text(heap, source)?;
-    assert_eq!(rt; text.as_str(), items);
+    assert_eq!(rt; text.as_str(), items, "of {what:?}");
     Ok(())
 }
 
 fn check_rows(rt: &impl Abort, heap: Global, rows: &[(&str, &str)]) -> Result<(), Fail> {
     for (source, items) in rows {
-        check_items(rt, heap, source.as_bytes(), items).note(format_args!(
-            "the source is {source:?}"
-        ))?;
+        check_items(rt, heap, source.as_bytes(), items, source)?;
     }
     Ok(())
 }
@@ -71,7 +75,7 @@ fn check_alone(rt: &impl Abort, heap: Global, kind: &str, words: &str) -> Result
     for word in words.split_whitespace() {
         let end = word.len();
         let items = format!(in heap; "{kind} {word} at 0, end at {end}")?;
-        check_items(rt, heap, word.as_bytes(), &items)?;
+        check_items(rt, heap, word.as_bytes(), &items, word)?;
     }
     Ok(())
 }
@@ -147,8 +151,12 @@ const GAPS: [(&str, &str); 15] = [
 #[test]
 fn gaps_and_other_bytes(rt: HostRuntime) -> Result<(), Fail> {
     let heap = rt.alloc();
-    check_items(&rt, heap, b"\xff", "no token at 0").note("the byte 255")?;
-    check_items(&rt, heap, b"/*\x00\xff*/a", "name a at 6, end at 7").note(
+    check_items(&rt, heap, b"\xff", "no token at 0", "the byte 255")?;
+    check_items(
+        &rt,
+        heap,
+        b"/*\x00\xff*/a",
+        "name a at 6, end at 7",
         "any byte in a comment",
     )?;
     check_rows(&rt, heap, &GAPS)
@@ -198,15 +206,16 @@ fn check_last(
     source: &[u8],
     count: usize,
     last: &str,
+    what: &str,
 ) -> Result<(), Fail> {
     let mut list = TokenList::new(heap)?;
     list.fill(b"what the list had before");
     list.fill(source);
     let items = list.items();
-    assert_eq!(rt; items.len(), count);
+    assert_eq!(rt; items.len(), count, "of {what}");
     let placed = items.last().ok_or("the list is empty")?;
     let text = item_text(heap, *placed)?;
-    assert_eq!(rt; text.as_str(), last);
+    assert_eq!(rt; text.as_str(), last, "of {what}");
     Ok(())
 }
 
@@ -214,7 +223,7 @@ fn check_last(
 fn limits(rt: HostRuntime) -> Result<(), Fail> {
     let heap = rt.alloc();
     let blanks = vec![in heap; b' '; 8192]?;
-    check_items(&rt, heap, &blanks, "end at 8192").note("blanks alone")?;
+    check_items(&rt, heap, &blanks, "end at 8192", "blanks alone")?;
     let rows = [
         (2047, "", 2048, "end at 2047"),
         (2048, "", 2049, "end at 2048"),
@@ -225,9 +234,8 @@ fn limits(rt: HostRuntime) -> Result<(), Fail> {
     ];
     for (marks, tail, count, last) in rows {
         let source = semicolons(heap, marks, tail)?;
-        check_last(&rt, heap, &source, count, last).note(format_args!(
-            "{marks} marks and then '{tail}'"
-        ))?;
+        let what = format!(in heap; "{marks} marks and then '{tail}'")?;
+        check_last(&rt, heap, &source, count, last, &what)?;
     }
     Ok(())
 }
