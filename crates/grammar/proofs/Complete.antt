@@ -1,5 +1,5 @@
 -- An expression that is derived is read. Assumes nothing.
-use Rattle.std.proofs.Common.{◌≡◌, ℕ, zero, suc, ◌+◌, ◌-◌, ◌<◌, ◌≤◌, Bool, true, false, cond, eqb, leb, List, [], ◌∷◌, sym, refl, ap, ◌∙◌, arith, le-ltb, eq-eqb, ne_eqb, eqb-true, leb-false}
+use Rattle.std.proofs.Common.{◌≡◌, ℕ, zero, suc, ◌+◌, ◌-◌, ◌<◌, ◌≤◌, Bool, true, false, cond, eqb, leb, List, ◌∷◌, sym, refl, ap, ◌∙◌, arith, le-ltb, eq-eqb, ne_eqb, eqb-true, leb-false}
 use borrow.Author.Tests.{lt-leb}
 use Rattle.script.specs.declared.types.«Type».{«Type» as Ty}
 use Rattle.script.specs.declared.types.«Type».TheVariants as type
@@ -18,7 +18,7 @@ use Rattle.grammar.specs.Tokens.{Tok, Is, IsName, offset, type_word, operator_ma
 use Rattle.grammar.specs.Grammar as rule
 use Rattle.grammar.specs.Grammar.{Expression, Actuals, SomeActuals, Condition}
 use Rattle.grammar.specs.Combine.{kind, kind_at, is, out_done, Parser, next, after, from, ret, bad, on, want, loop, separated, listed}
-use Rattle.grammar.specs.Parse.{is_name, is_constant, is_type, binding, operates, compares, joining, joins, type_of, thing_expr, Got, got, Found, binary, goes, level, actuals, named, cast_to, grouped, operand_by, operand, expression, compared, negation_by, merged, negation, condition}
+use Rattle.grammar.specs.Parse.{is_name, is_constant, is_type, binding, operates, compares, joining, joins, type_of, thing_expr, Got, got, Found, binary, goes, level, actuals, named, cast_to, grouped, operand_by, operand, expression, negation_by, merged, negation, condition}
 use Rattle.grammar.proofs.Symbols.{never, Sharp, operates_sharp, own, operator_is, operator_binds}
 use Rattle.grammar.proofs.Local.{on_else, on_it}
 use Rattle.grammar.proofs.Reader.{or_left, or_right}

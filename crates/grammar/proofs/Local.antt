@@ -1,11 +1,11 @@
 -- A reader looks no further than the token at which it stops, and what it has read can be completed. Assumes nothing.
-use Rattle.std.proofs.Common.{◌≡◌, ℕ, zero, suc, ◌+◌, ◌<◌, Bool, true, false, cond, eqb, ltb, ◌⊎◌, List, [], ◌∷◌, ◌++◌, sym, refl, ap, ◌∙◌, inl, inr, append_assoc, arith, le-ltb}
+use Rattle.std.proofs.Common.{◌≡◌, ℕ, zero, suc, ◌<◌, Bool, true, false, cond, eqb, ltb, ◌⊎◌, List, [], ◌∷◌, ◌++◌, sym, refl, ap, ◌∙◌, inl, inr, append_assoc, arith, le-ltb}
 use Rattle.std.proofs.lemmas.Bool.Decides.{eqb_tells}
 use Rattle.tokens.specs.declared.types.Mark.{Mark}
 use Rattle.tokens.specs.declared.types.Mark.TheVariants as sign
 use Rattle.tokens.specs.Spelling.{Symbol, mark, Item, item}
 use Rattle.tokens.specs.Scan.{final}
-use Rattle.grammar.specs.Tokens.{Tok, offset, first}
+use Rattle.grammar.specs.Tokens.{Tok, offset}
 use Rattle.grammar.specs.Combine.{kind, kind_at, is, Why, why_bad, why_deep, why_many, why_gas, Out, out_done, out_fail, Parser, next, after, from, ret, bad, no_more, bare, on, want, peek, loop, many, separated, ends}
 use Rattle.grammar.proofs.Symbols.{never, Sharp, goes_on, mark_sharp, own}
 

@@ -8,12 +8,12 @@ use Rattle.script.specs.Tree as tree
 use Rattle.script.specs.Tree.{Expr, Exprs, Cond, Stmt, Stmts, Fun, Program}
 use Rattle.tokens.specs.declared.types.Keyword.TheVariants as word
 use Rattle.tokens.specs.declared.types.Mark.TheVariants as sign
-use Rattle.tokens.specs.Spelling.{Symbol, name, keyword, mark, end, item}
+use Rattle.tokens.specs.Spelling.{Symbol, name, keyword, mark, item}
 use Rattle.grammar.specs.Tokens.{Tok, Is, IsName, offset, first, type_word, comparison_mark}
 use Rattle.grammar.specs.Grammar as rule
 use Rattle.grammar.specs.Grammar.{Declares, Condition, Statement, Statements, SomeFormals, Formals, Function}
 use Rattle.grammar.specs.Combine.{kind, kind_at, is, out_done, Parser, next, after, ret, bad, on, want, peek, loop, many, ends}
-use Rattle.grammar.specs.Parse.{is_name, is_type, declares, compares, joins, begins, name_of, type_of, join_of, Thing, thing_expr, thing_cond, Found, found, typed, declarator, level, actuals, operand, expression, compared, tested, joined, holds, condition_by, negation, condition, ended, declaration, assignment, otherwise, tests, statement_by, statement, statements, formals, body, function, program}
+use Rattle.grammar.specs.Parse.{is_name, is_type, declares, compares, joins, begins, name_of, type_of, join_of, Thing, thing_expr, thing_cond, Found, found, typed, declarator, level, actuals, operand, expression, tested, joined, holds, condition_by, negation, condition, ended, declaration, assignment, otherwise, tests, statement_by, statement, statements, formals, function, program}
 use Rattle.grammar.proofs.Symbols.{joins_sharp, only, comparison_is, comparison_tests}
 use Rattle.grammar.proofs.Local.{on_else}
 use Rattle.grammar.proofs.Reader.{or_left}

@@ -8,12 +8,12 @@ use Rattle.script.specs.Tree.{Expr, Exprs, Cond, Stmt, Stmts, Fun, Program}
 use Rattle.tokens.specs.declared.types.Keyword.TheVariants as word
 use Rattle.tokens.specs.declared.types.Mark.{Mark}
 use Rattle.tokens.specs.declared.types.Mark.TheVariants as sign
-use Rattle.tokens.specs.Spelling.{Symbol, name, constant, keyword, mark, end, Item}
+use Rattle.tokens.specs.Spelling.{Symbol, constant, keyword, mark, Item}
 use Rattle.grammar.specs.Tokens.{Tok, Is, IsName, offset, type_word}
 use Rattle.grammar.specs.Grammar as rule
 use Rattle.grammar.specs.Grammar.{Declares, Expression, Actuals, SomeActuals, Condition, Statement, Statements, SomeFormals, Formals, Function}
 use Rattle.grammar.specs.Combine.{kind, kind_at, is, Why, why_bad, why_deep, why_many, Out, out_done, out_fail, Parser, next, after, from, ret, bad, bare, on, want, peek, loop, many, separated, listed, ends}
-use Rattle.grammar.specs.Parse.{is_name, is_constant, is_type, declares, operates, compares, joins, begins, value_of, name_of, type_of, operator_of, comparison_of, join_of, Thing, thing_expr, thing_cond, Got, got, Found, found, typed, declarator, binary, goes, level, actuals, named, grouped, operand_by, operand, expression, compared, tested, negation_by, joined, holds, condition_by, negation, condition, ended, declaration, assignment, otherwise, tests, statement_by, statements_by, statement, statements, formals, body, function, program}
+use Rattle.grammar.specs.Parse.{is_name, is_constant, is_type, declares, operates, compares, joins, begins, value_of, name_of, type_of, operator_of, comparison_of, join_of, Thing, thing_expr, thing_cond, Got, got, Found, found, typed, declarator, binary, goes, level, actuals, named, grouped, operand_by, operand, expression, tested, negation_by, joined, holds, condition_by, negation, condition, ended, declaration, assignment, otherwise, tests, statement_by, statements_by, statement, statements, formals, body, function, program}
 use Rattle.grammar.proofs.Symbols.{never, Sharp, mark_sharp, operates_sharp, joins_sharp, only, definite, a_name, a_constant, a_type, Operates, operates_by, an_operator, operator_is, Compares, compares_by, a_comparison, comparison_is, Joins, by_and, by_or, a_join}
 
 pub data Ok {X : Type 0} (K : X → List Tok → Type 0) : Out X → Type 0 where

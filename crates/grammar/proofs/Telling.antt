@@ -12,7 +12,7 @@ use Rattle.tokens.specs.Spelling.{Symbol, mark, keyword}
 use Rattle.grammar.specs.Tokens.{Tok, Is, comparison_mark, operator_mark, type_word}
 use Rattle.grammar.specs.Grammar as grammar
 use Rattle.grammar.specs.Grammar.{Expression, Actuals, SomeActuals, Condition}
-use Rattle.grammar.specs.Combine.{kind, mark_kind}
+use Rattle.grammar.specs.Combine.{kind}
 use Rattle.grammar.specs.Parentheses.{HasComparison, here, there, ParenthesesTell}
 
 -- the kinds of comparisons are 26 to 31

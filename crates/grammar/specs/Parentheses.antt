@@ -1,5 +1,5 @@
 -- What a parenthesis in a condition encloses. Assumes nothing.
-use Rattle.std.specs.Prelude.{◌≡◌, ℕ, List, [], ◌∷◌, ◌++◌}
+use Rattle.std.specs.Prelude.{◌≡◌, ℕ, List, ◌∷◌, ◌++◌}
 use Rattle.script.specs.declared.types.Comparison.{Comparison}
 use Rattle.script.specs.Tree.{Expr, Cond}
 use Rattle.tokens.specs.Spelling.{mark}

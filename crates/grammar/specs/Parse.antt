@@ -15,7 +15,7 @@ use Rattle.tokens.specs.declared.types.Mark.TheVariants as sign
 use Rattle.tokens.specs.Spelling.{Symbol, name, constant, keyword, mark, end, trouble, Item, trouble_number}
 use Rattle.grammar.specs.Tokens.{offset, first}
 use Rattle.grammar.specs.Refusals.{tokens, Outcome, reads, refuses}
-use Rattle.grammar.specs.Combine.{kind, is, Why, why_bad, why_deep, why_many, why_gas, Out, out_done, out_fail, Parser, next, after, from, ret, bad, no_more, on, want, loop, many, listed, ends}
+use Rattle.grammar.specs.Combine.{kind, is, Why, why_bad, why_deep, why_many, why_gas, Out, out_done, out_fail, Parser, after, from, ret, bad, no_more, on, want, loop, many, listed, ends}
 
 -- the kind of names
 abbrev pub is_name : ℕ → Bool

@@ -10,7 +10,7 @@ use Rattle.tokens.specs.declared.types.Mark.TheVariants.{LeftParen, RightParen, 
 use Rattle.tokens.specs.declared.types.Keyword.TheVariants.{Nil}
 use Rattle.tokens.specs.Spelling.{item_of, mark, keyword}
 use Rattle.grammar.specs.Tokens.{first}
-use Rattle.grammar.specs.Combine.{why_bad, Out, out_done, Parser, kind_at, is, after}
+use Rattle.grammar.specs.Combine.{why_bad, Out, out_done, Parser, kind_at, is}
 use Rattle.grammar.specs.Parse.{Got, got, expression, actuals, named, operand, is_type, type_of, is_constant, is_name, name_of, value_of}
 use Rattle.reader.specs.declared.refusal.ReadRefusal.{ReadRefusal}
 use Rattle.reader.specs.declared.cursor.Cursor.{Cursor}

@@ -1,21 +1,19 @@
 -- What a step of reading does to the cursor and to the code. Assumes nothing.
-use Rattle.std.specs.Prelude.{◌≡◌, ℕ, suc, ◌+◌, ◌-◌, ◌*◌, ◌<◌, ◌≤◌, Bool, true, false, List, [], ◌∷◌, ◌++◌, length, Some, None, Ok, Err, vec_items, vec_len, vec_capacity, Option, Result}
+use Rattle.std.specs.Prelude.{◌≡◌, ℕ, ◌+◌, ◌-◌, ◌*◌, ◌<◌, ◌≤◌, true, false, List, ◌++◌, length, Some, None, Ok, Err, vec_items, vec_len, vec_capacity, Option, Result}
 use Rattle.script.specs.declared.types.Node.{Node}
 use Rattle.script.specs.declared.types.Name.{Name}
-use Rattle.script.specs.Tree.{Expr, Exprs, Cond, Stmt, Stmts, count}
-use Rattle.script.specs.Flat.{flat, flats, flat_cond}
+use Rattle.script.specs.Tree.{Exprs, count}
+use Rattle.script.specs.Flat.{flats}
 use Rattle.tokens.specs.declared.types.Mark.{Mark}
-use Rattle.tokens.specs.Spelling.{symbol_of, item_of, mark}
+use Rattle.tokens.specs.Spelling.{item_of, mark}
 use Rattle.grammar.specs.Tokens.{Tok, offset, first}
-use Rattle.grammar.specs.Combine.{Why, why_bad, why_deep, why_many, Out, out_done, out_fail, Parser, kind_at, is}
-use Rattle.grammar.specs.Parse.{Thing as ReadThing, thing_expr, thing_cond, number_of, is_constant, is_name, name_of, value_of}
+use Rattle.grammar.specs.Combine.{Why, why_bad, why_deep, why_many, out_done, out_fail, Parser, kind_at, is}
+use Rattle.grammar.specs.Parse.{number_of, is_constant, is_name, name_of, value_of}
 use Rattle.reader.specs.declared.refusal.Reason.{Reason}
 use Rattle.reader.specs.declared.refusal.Reason.TheVariants.{TooLong, NoToken, OpenComment, LargeConstant, Wrong, TooDeep, TooMany}
 use Rattle.reader.specs.declared.refusal.ReadRefusal.{ReadRefusal}
 use Rattle.reader.specs.declared.cursor.Cursor.{Cursor}
 use Rattle.reader.specs.declared.code.Code.{Code}
-use Rattle.reader.specs.declared.code.Thing.{Thing}
-use Rattle.reader.specs.declared.code.Thing.TheVariants.{Expression, Condition}
 use Rattle.reader.specs.Cursor.{left, after}
 
 -- the number of a refusal

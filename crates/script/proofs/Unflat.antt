@@ -1,5 +1,5 @@
 -- The tree of a flat code. The entries are gone through once; what is begun or done stands on stacks, the newest first. Assumes nothing.
-use Rattle.std.proofs.Common.{◌≡◌, ℕ, zero, suc, ◌+◌, false, List, [], ◌∷◌, ◌++◌, length, take, drop, sym, refl, ap, ◌∙◌, append_assoc, append-nil, arith, length-append}
+use Rattle.std.proofs.Common.{◌≡◌, ℕ, ◌+◌, false, List, [], ◌∷◌, ◌++◌, length, take, drop, sym, refl, ap, ◌∙◌, append_assoc, append-nil, arith}
 use Rattle.std.proofs.lemmas.List.{take_at, drop_at}
 use Rattle.script.specs.declared.types.«Type».TheVariants.{Int}
 use Rattle.script.specs.declared.types.Comparison.TheVariants.{Less}
@@ -7,7 +7,7 @@ use Rattle.script.specs.declared.types.Declarator.{Declarator}
 use Rattle.script.specs.declared.types.Node.{Node}
 use Rattle.script.specs.declared.types.Node.TheVariants as node
 use Rattle.script.specs.Tree.{Expr, nil, constant, variable, negate, cast, binary, call, Exprs, none, more, Cond, compare, negated, both, either, Stmt, declare, assign, calls, if_then, if_else, while, free, print, return, block, Stmts, end, next, Fun, Program, count}
-use Rattle.script.specs.Flat.{flat, flats, flat_cond, flat_stmt, flat_stmts, flat_formals, flat_fun, flat_program, scoped, if_then_code, if_else_code, looped}
+use Rattle.script.specs.Flat.{flat, flats, flat_cond, flat_stmt, flat_stmts, flat_formals, flat_fun, flat_program, scoped}
 use Rattle.script.specs.Laws.{FlatLosesNothing}
 
 -- a node that began, a condition that is done, and one whose right side is still to come

@@ -1,12 +1,12 @@
 -- What one turn of the scan does: how far it goes, and the items that it leaves. Assumes nothing.
-use Rattle.std.proofs.Common.{◌≡◌, ℕ, zero, suc, ◌+◌, ◌<◌, ◌≤◌, Bool, true, false, cond, ◌&&◌, eqb, List, [], ◌∷◌, length, take, drop, Some, None, Option, sym, refl, ap, ◌∙◌, subst, arith, length-drop, length-take}
+use Rattle.std.proofs.Common.{◌≡◌, ℕ, zero, suc, ◌+◌, ◌<◌, ◌≤◌, true, false, ◌&&◌, eqb, List, [], ◌∷◌, length, take, drop, Some, None, Option, refl, ap, ◌∙◌, subst, arith, length-drop, length-take}
 use Rattle.std.proofs.lemmas.Bool.{cond_both, and_parts}
 use Rattle.byte_class.specs.Classes.{class_of, digit}
 use Rattle.byte_class.specs.declared.Class.{Class}
 use Rattle.byte_class.specs.declared.Class.TheVariants as class
 use Rattle.tokens.specs.declared.types.Keyword.{Keyword}
 use Rattle.tokens.specs.declared.types.Mark.{Mark}
-use Rattle.tokens.specs.Spelling.{Symbol, Item, item, wordy}
+use Rattle.tokens.specs.Spelling.{Symbol, item, wordy}
 use Rattle.tokens.specs.Scan.{run, starts, value_of, later, closing, keyword_of, Front, gap, found, stop, word_symbol, number_by, comment_by, one_or_two, two, front_by, front, items_by, lexed_by, lexed, final}
 
 -- what stands first passes a byte at least, and n bytes at most; it is a token, or it is the last item

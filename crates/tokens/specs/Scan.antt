@@ -1,5 +1,5 @@
 -- The items of a source, computed. Assumes nothing.
-use Rattle.std.specs.Prelude.{◌≡◌, ℕ, zero, suc, ◌+◌, ◌-◌, ◌≤◌, Bool, true, false, cond, ◌&&◌, List, [], ◌∷◌, ◌++◌, length, take, drop, Some, None, Option, ◌==◌, nat_le}
+use Rattle.std.specs.Prelude.{ℕ, zero, suc, ◌+◌, Bool, true, false, cond, ◌&&◌, List, [], ◌∷◌, length, take, drop, Some, None, Option, ◌==◌, nat_le}
 use Rattle.std.specs.Str.{bytes_eq}
 use Rattle.byte_class.specs.Classes.{class_of, digit}
 use Rattle.byte_class.specs.declared.Class.{Class}
@@ -10,7 +10,6 @@ use Rattle.tokens.specs.declared.types.Mark.{Mark}
 use Rattle.tokens.specs.declared.types.Mark.TheVariants.{LeftParen, RightParen, LeftBrace, RightBrace, Comma, Semicolon, Assign, Plus, Minus, Star, Dot, Less, Greater, LessEqual, GreaterEqual, EqualEqual, NotEqual, Not, AndAnd, OrOr}
 use Rattle.tokens.specs.declared.types.Run.{Run}
 use Rattle.tokens.specs.declared.types.Run.TheVariants.{Word, Digits}
-use Rattle.tokens.specs.declared.types.Trouble.{Trouble}
 use Rattle.tokens.specs.declared.types.Trouble.TheVariants.{NoToken, OpenComment, LargeConstant}
 use Rattle.tokens.specs.Spelling.{Symbol, name, constant, keyword, mark, end, trouble, Item, item, keyword_text, wordy, reading}
 use Rattle.tokens.specs.Lexing.{largest}

@@ -1,4 +1,4 @@
-use Rattle.std.proofs.Common.{◌≡◌, ◌+◌, ◌<◌, min, length, sym, refl, ap, ◌∙◌, arith}
+use Rattle.std.proofs.Common.{◌≡◌, ◌+◌, ◌<◌, min, length, refl, ap, ◌∙◌, arith}
 use Rattle.position.specs.Lines.{breaks, since_break}
 use Rattle.position.proofs.Counting.{line_more, column_more, take_up_to}
 use Rattle.position.proofs.position_of.Goals as goal

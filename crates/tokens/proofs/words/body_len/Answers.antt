@@ -1,4 +1,4 @@
-use Rattle.std.proofs.Common.{◌≡◌, ◌+◌, ◌-◌, ◌<◌, true, false, ◌&&◌, eqb, length, get_or, drop, Some, sym, refl, ap, ◌∙◌, add-zero, arith}
+use Rattle.std.proofs.Common.{◌≡◌, ◌+◌, ◌-◌, false, ◌&&◌, eqb, get_or, drop, Some, sym, ap, ◌∙◌, add-zero, arith}
 use Rattle.std.proofs.lemmas.Bool.{eq-eqb, ne_eqb, and_from, and_left, and_right}
 use Rattle.tokens.specs.Scan.{starts, later, closing}
 use Rattle.tokens.proofs.Runs.{starts_at, starts_past, closing_here, closing_on, closing_end, later_later}

@@ -1,4 +1,4 @@
-use Rattle.std.proofs.Common.{suc, ◌+◌, ◌-◌, [], ◌∷◌, ◌++◌, vec_items, sym, refl, ap, ◌∙◌, subst, append_assoc, add-one, arith}
+use Rattle.std.proofs.Common.{suc, [], ◌∷◌, ◌++◌, vec_items, sym, refl, ap, ◌∙◌, subst, append_assoc, add-one, arith}
 use Rattle.std.proofs.lemmas.Result.{err_from_is_err_and}
 use Rattle.script.specs.declared.types.Node.TheVariants as node
 use Rattle.script.specs.Tree as tree
@@ -6,7 +6,6 @@ use Rattle.script.specs.Flat.{flat_stmt, flat_stmts}
 use Rattle.tokens.specs.declared.types.Mark.TheVariants as sign
 use Rattle.grammar.specs.Combine.{after, ret, want}
 use Rattle.grammar.specs.Parse.{expression, assignment, statement, statements, otherwise}
-use Rattle.reader.specs.Cursor.{left}
 use Rattle.reader.specs.Statements.{Goes}
 use Rattle.reader.proofs.Says.{at_start, takes, stops, goes_on, breaks, wants, unwanted, passed_one}
 use Rattle.reader.proofs.Writes.{around, reads_on, opens_reads}

@@ -1,4 +1,4 @@
-use Rattle.std.proofs.Common.{suc, ◌+◌, ◌-◌, [], ◌∷◌, ◌++◌, vec_items, sym, refl, ap, ◌∙◌, arith}
+use Rattle.std.proofs.Common.{suc, [], ◌∷◌, ◌++◌, vec_items, sym, refl, ap, ◌∙◌, arith}
 use Rattle.std.proofs.lemmas.Result.{err_from_is_err_and}
 use Rattle.script.specs.declared.types.Node.TheVariants as node
 use Rattle.script.specs.Tree as tree

@@ -1,4 +1,4 @@
-use Rattle.std.proofs.Common.{◌-◌, sym, ◌∙◌}
+use Rattle.std.proofs.Common.{sym, ◌∙◌}
 use Rattle.std.proofs.lemmas.Result.{err_from_is_err_and}
 use Rattle.reader.proofs.Commas.{parted_none, parted_more, parted_stops, parted_fails, formals_fail, formals_end, formals_none}
 use Rattle.reader.proofs.code.Code.formals_after.Goals as goal

@@ -1,4 +1,4 @@
-use Rattle.std.proofs.Common.{◌-◌, sym, ◌∙◌}
+use Rattle.std.proofs.Common.{sym, ◌∙◌}
 use Rattle.std.proofs.lemmas.Result.{err_from_is_err_and}
 use Rattle.reader.proofs.Programs.{programmed_none, programmed_more, programmed_fails, programmed_all, programmed_bad}
 use Rattle.reader.proofs.code.Code.program.Goals as goal

@@ -1,4 +1,4 @@
-use Rattle.std.proofs.Common.{suc, ◌+◌, ◌-◌, true, ◌++◌, vec_items, ap, ◌∙◌, append_assoc, add-one, arith}
+use Rattle.std.proofs.Common.{suc, true, ◌++◌, vec_items, ap, ◌∙◌, append_assoc, add-one, arith}
 use Rattle.std.proofs.lemmas.Result.{err_from_is_err_and}
 use Rattle.script.specs.Flat.{flat_cond}
 use Rattle.tokens.specs.declared.types.Mark.TheVariants as sign

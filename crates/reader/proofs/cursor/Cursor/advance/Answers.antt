@@ -1,6 +1,6 @@
-use Rattle.std.proofs.Common.{◌≡◌, suc, cond, List, [], ◌∷◌, sym, refl, ap, ◌∙◌, add-one}
+use Rattle.std.proofs.Common.{suc, cond, [], ◌∷◌, sym, refl, ap, ◌∙◌, add-one}
 use Rattle.std.proofs.lemmas.Bool.{cond-false}
-use Rattle.tokens.specs.Spelling.{Item, symbol_of, item_of}
+use Rattle.tokens.specs.Spelling.{symbol_of, item_of}
 use Rattle.tokens.specs.Scan.{final}
 use Rattle.tokens.specs.State.{to_come}
 use Rattle.grammar.specs.Tokens.{tokens_from}

@@ -1,4 +1,4 @@
-use Rattle.std.proofs.Common.{◌∷◌, take, ap, ◌∙◌, arith}
+use Rattle.std.proofs.Common.{◌∷◌, take, ap, ◌∙◌}
 use Rattle.tokens.specs.State.{here, beyond}
 use Rattle.tokens.specs.Scan.{number}
 use Rattle.tokens.proofs.Places.{number_at}

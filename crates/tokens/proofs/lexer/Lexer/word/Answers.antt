@@ -1,4 +1,4 @@
-use Rattle.std.proofs.Common.{◌∷◌, take, ap, ◌∙◌, arith}
+use Rattle.std.proofs.Common.{◌∷◌, take, ap, ◌∙◌}
 use Rattle.tokens.specs.State.{here, beyond}
 use Rattle.tokens.specs.Scan.{word}
 use Rattle.tokens.proofs.Places.{word_at}
