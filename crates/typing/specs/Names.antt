@@ -39,8 +39,8 @@ unfoldable pub built_in_named : List ℕ → Option BuiltIn
 built_in_named text =
     cond (bytes_eq text (codes "left")) (Some Left)
     (cond (bytes_eq text (codes "right")) (Some Right)
-    (cond (bytes_eq text (codes "is_atom")) (Some IsAtom)
-    (cond (bytes_eq text (codes "is_nil")) (Some IsNil)
+    (cond (bytes_eq text (codes "isAtom")) (Some IsAtom)
+    (cond (bytes_eq text (codes "isNil")) (Some IsNil)
     (cond (bytes_eq text (codes "setLeft")) (Some SetLeft)
     (cond (bytes_eq text (codes "setRight")) (Some SetRight) None)))))
 

@@ -1,5 +1,5 @@
 -- Types: what fits what, and what operators, casts and functions take and give. Assumes nothing.
-use Rattle.std.specs.Prelude.{ℕ, Bool, true, false, cond, not, List, [], ◌∷◌, take, drop}
+use Rattle.std.specs.Prelude.{Bool, true, false, cond, not, List, [], ◌∷◌, take, drop}
 use Rattle.script.specs.declared.types.«Type».{«Type» as Ty}
 use Rattle.script.specs.declared.types.«Type».TheVariants.{Int, Ref, Q}
 use Rattle.script.specs.declared.types.BuiltIn.{BuiltIn}

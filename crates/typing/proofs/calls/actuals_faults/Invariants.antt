@@ -1,4 +1,4 @@
-use Rattle.std.proofs.Common.{◌≡◌, ◌-◌, length, drop}
+use Rattle.std.proofs.Common.{◌≡◌, ◌-◌, drop}
 use Rattle.typing.specs.Types.{takes}
 use Rattle.typing.specs.Faults.{noted, misfits}
 use Rattle.typing.specs.View.{ctx_of}

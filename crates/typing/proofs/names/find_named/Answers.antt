@@ -2,11 +2,11 @@ use Rattle.std.proofs.Common.{sym, ◌∙◌}
 use Rattle.typing.proofs.Loops.{find_hit, find_on, find_end}
 use Rattle.typing.proofs.names.find_named.Goals as goal
 
-pub returns-then-is-named : goal.returns-then-is-named
-returns-then-is-named c = sym (c.loop-i.invariant ∙ find_hit c.args.source.now c.args.text.now c.args.variables.now c.loop-i.i _ c.loop-i-test.true (sym c.if-is-named.ensures))
+pub returns-then-is_named : goal.returns-then-is_named
+returns-then-is_named c = sym (c.loop-i.invariant ∙ find_hit c.args.source.now c.args.text.now c.args.variables.now c.loop-i.i _ c.loop-i-test.true (sym c.if-is_named.ensures))
 
 pub loop-i-preserved : goal.loop-i-preserved
-loop-i-preserved c = c.loop-i.invariant ∙ find_on c.args.source.now c.args.text.now c.args.variables.now c.loop-i.i _ c.loop-i-test.true (sym c.if-is-named.ensures)
+loop-i-preserved c = c.loop-i.invariant ∙ find_on c.args.source.now c.args.text.now c.args.variables.now c.loop-i.i _ c.loop-i-test.true (sym c.if-is_named.ensures)
 
 pub returns : goal.returns
 returns c = sym (c.loop-i.invariant ∙ find_end c.args.source.now c.args.text.now c.args.variables.now c.loop-i.i c.loop-i-test.false)
