@@ -1,4 +1,4 @@
-use Rattle.std.proofs.Common.{◌+◌, ◌-◌, ◌<◌, set, refl, ap, ◌∙◌, inl, inr, arith}
+use Rattle.std.proofs.Common.{◌+◌, ◌-◌, ◌<◌, set, refl, ap, ◌∙◌, arith}
 use lib.Seq.{map-set}
 use Rattle.heap.specs.Model.{taken}
 use Rattle.counting.specs.declared.cell.Cell.TheVariants.{Dying}
@@ -32,8 +32,7 @@ returns c =
     let xs = places_in c.args.self.now in
     let x = c.args.pair in
     let p = c.args.place.at in
-    let h : 0 < (x.holds - 1) + x.named =
-    elim c.else-pair-eq1.either [ inl a ↦ (let m = a.1 in grind arith) | inr b ↦ (let k = c.requires.held in grind arith) ] in
+    let h : 0 < (x.holds - 1) + x.named = let held = c.requires.held in grind arith in
     record {
       cells = settled_still (ap rooms c.write-2.ensures.cells ∙ map-set room_of xs p (with_holds x (x.holds - 1))) (sound_holds xs c.args.free p (x.holds - 1) c.requires.sound c.requires.found h c.write-2.ensures.cells);
       rest = c.write-2.ensures.rest;
