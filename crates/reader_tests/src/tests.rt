@@ -2,7 +2,6 @@
 use reader::ReadScript;
 use script::{Comparison, Name, Node, Operator};
 use std::alloc::{AllocError, Global};
-use std::process::Abort;
 use std::test::Fail;
 
 fn operator_text(operator: Operator) -> &'static str {
@@ -98,30 +97,32 @@ fn read_text(heap: Global, source: &[u8]) -> Result<String, AllocError> {
     }
 }
 
-fn check_read(
-    rt: &impl Abort,
-    heap: Global,
-    source: &[u8],
-    words: &str,
-    what: &str,
-) -> Result<(), Fail> {
+fn check_text(text: &str, expected: &str, what: &str) -> Result<(), Fail> {
+    if text == expected {
+        return Ok(());
+    }
+    Err(Fail::new(format_args!("{what}: {text:?}, not {expected:?}")))
+}
+
+fn check_read(heap: Global, source: &[u8], words: &str, what: &str) -> Result<(), Fail> {
     let text = read_text(heap, source)?;
-    assert_eq!(rt; text.as_str(), words, "of {what:?}");
-    Ok(())
+    check_text(text.as_str(), words, what)
 }
 
 // Each row is a body of `int main(int a) { .. }`, so that it begins at offset 18.
-fn check_bodies(rt: &impl Abort, heap: Global, rows: &[(&str, &str)]) -> Result<(), Fail> {
+fn check_bodies(heap: Global, rows: &[(&str, &str)]) -> Result<(), Fail> {
     for (body, words) in rows {
         let source = format!(in heap; "int main(int a) {{ {body} }}")?;
-        check_read(rt, heap, source.as_bytes(), words, body)?;
+        let what = format!(in heap; "the body is {body:?}")?;
+        check_read(heap, source.as_bytes(), words, &what)?;
     }
     Ok(())
 }
 
-fn check_sources(rt: &impl Abort, heap: Global, rows: &[(&str, &str)]) -> Result<(), Fail> {
+fn check_sources(heap: Global, rows: &[(&str, &str)]) -> Result<(), Fail> {
     for (source, words) in rows {
-        check_read(rt, heap, source.as_bytes(), words, source)?;
+        let what = format!(in heap; "the source is {source:?}")?;
+        check_read(heap, source.as_bytes(), words, &what)?;
     }
     Ok(())
 }
@@ -208,9 +209,9 @@ const STATEMENTS: [(&str, &str); 10] = [
 #[test]
 fn readings(rt: HostRuntime) -> Result<(), Fail> {
     let heap = rt.alloc();
-    check_bodies(&rt, heap, &EXPRESSIONS)?;
-    check_bodies(&rt, heap, &CONDITIONS)?;
-    check_bodies(&rt, heap, &STATEMENTS)
+    check_bodies(heap, &EXPRESSIONS)?;
+    check_bodies(heap, &CONDITIONS)?;
+    check_bodies(heap, &STATEMENTS)
 }
 
 const WRONG: [(&str, &str); 16] = [
@@ -260,9 +261,9 @@ const SOURCES: [(&str, &str); 22] = [
 #[test]
 fn refusals(rt: HostRuntime) -> Result<(), Fail> {
     let heap = rt.alloc();
-    check_bodies(&rt, heap, &WRONG)?;
-    check_sources(&rt, heap, &SOURCES)?;
-    check_read(&rt, heap, b"int f() { \xff", "2 at 10", "a byte above 127")
+    check_bodies(heap, &WRONG)?;
+    check_sources(heap, &SOURCES)?;
+    check_read(heap, b"int f() { \xff", "2 at 10", "a byte above 127")
 }
 
 // A body: what it begins with, so many times the front, the middle, and so many times the back.
@@ -287,25 +288,15 @@ fn nested(
     Ok(text)
 }
 
-fn check_verdict(
-    rt: &impl Abort,
-    heap: Global,
-    source: &[u8],
-    verdict: &str,
-    what: &str,
-) -> Result<(), Fail> {
+fn check_verdict(heap: Global, source: &[u8], verdict: &str, what: &str) -> Result<(), Fail> {
     let mut script = ReadScript::new(heap)?;
     match script.read(source) {
-        Ok(()) => {
-            assert_eq!(rt; "read", verdict, "of {what}");
-            Ok(())
-        },
+        Ok(()) => check_text("read", verdict, what),
         Err(refusal) => {
             let number = refusal.number();
             let at = refusal.at;
             let text = format!(in heap; "{number} at {at}")?;
-            assert_eq!(rt; text.as_str(), verdict, "of {what}");
-            Ok(())
+            check_text(text.as_str(), verdict, what)
         }
     }
 }
@@ -341,11 +332,11 @@ fn limits(rt: HostRuntime) -> Result<(), Fail> {
     for (count, front, middle, back, verdict) in rows {
         let source = nested(heap, "", count, front, middle, back)?;
         let what = format!(in heap; "{count} times {front:?} and {middle:?}")?;
-        check_verdict(&rt, heap, source.as_bytes(), verdict, &what)?;
+        check_verdict(heap, source.as_bytes(), verdict, &what)?;
     }
     let long = vec![in heap; b' '; 8193]?;
-    check_read(&rt, heap, &long, "1 at 8192", "8,193 blanks")?;
-    check_read(&rt, heap, &long[0..8192], "", "8,192 blanks")
+    check_read(heap, &long, "1 at 8192", "8,193 blanks")?;
+    check_read(heap, &long[0..8192], "", "8,192 blanks")
 }
 
 // Parentheses, prefixes, casts and calls inside a return.
@@ -369,7 +360,7 @@ fn deep_expressions(rt: HostRuntime) -> Result<(), Fail> {
         let _ = source.pop();
         source.push_str(";}")?;
         let what = format!(in heap; "{count} times {front:?}")?;
-        check_verdict(&rt, heap, source.as_bytes(), verdict, &what)?;
+        check_verdict(heap, source.as_bytes(), verdict, &what)?;
     }
     Ok(())
 }
@@ -387,7 +378,7 @@ fn deep_conditions(rt: HostRuntime) -> Result<(), Fail> {
     for (count, front, middle, back, verdict) in rows {
         let source = nested(heap, "if (", count, front, middle, back)?;
         let what = format!(in heap; "{count} times {front:?} and {middle:?}")?;
-        check_verdict(&rt, heap, source.as_bytes(), verdict, &what)?;
+        check_verdict(heap, source.as_bytes(), verdict, &what)?;
     }
     Ok(())
 }

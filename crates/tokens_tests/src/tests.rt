@@ -2,7 +2,6 @@
 use byte_class::{class_at, class_by_formula};
 use position::{Position, position_of};
 use std::alloc::{AllocError, Global};
-use std::process::Abort;
 use std::test::Fail;
 use tokens::{Lexer, Placed, Token, TokenList, Trouble};
 
@@ -51,31 +50,32 @@ fn items_text(heap: Global, source: &[u8]) -> Result<String, AllocError> {
     Ok(text)
 }
 
-fn check_items(
-    rt: &impl Abort,
-    heap: Global,
-    source: &[u8],
-    items: &str,
-    what: &str,
-) -> Result<(), Fail> {
-    let text = items_text(heap, source)?;
-    assert_eq!(rt; text.as_str(), items, "of {what:?}");
-    Ok(())
+fn check_text(text: &str, expected: &str, what: &str) -> Result<(), Fail> {
+    if text == expected {
+        return Ok(());
+    }
+    Err(Fail::new(format_args!("{what}: {text:?}, not {expected:?}")))
 }
 
-fn check_rows(rt: &impl Abort, heap: Global, rows: &[(&str, &str)]) -> Result<(), Fail> {
+fn check_items(heap: Global, source: &[u8], items: &str, what: &str) -> Result<(), Fail> {
+    let text = items_text(heap, source)?;
+    check_text(text.as_str(), items, what)
+}
+
+fn check_rows(heap: Global, rows: &[(&str, &str)]) -> Result<(), Fail> {
     for (source, items) in rows {
-        check_items(rt, heap, source.as_bytes(), items, source)?;
+        let what = format!(in heap; "the source is {source:?}")?;
+        check_items(heap, source.as_bytes(), items, &what)?;
     }
     Ok(())
 }
 
 // Each word of the list is one token of the kind.
-fn check_alone(rt: &impl Abort, heap: Global, kind: &str, words: &str) -> Result<(), Fail> {
+fn check_alone(heap: Global, kind: &str, words: &str) -> Result<(), Fail> {
     for word in words.split_whitespace() {
         let end = word.len();
         let items = format!(in heap; "{kind} {word} at 0, end at {end}")?;
-        check_items(rt, heap, word.as_bytes(), &items, word)?;
+        check_items(heap, word.as_bytes(), &items, word)?;
     }
     Ok(())
 }
@@ -96,9 +96,9 @@ const MARKS: &str = "( ) { } , ; = + - * . < > <= >= == != ! && ||";
 #[test]
 fn words_and_marks(rt: HostRuntime) -> Result<(), Fail> {
     let heap = rt.alloc();
-    check_alone(&rt, heap, "keyword", KEYWORDS)?;
-    check_alone(&rt, heap, "name", NAMES)?;
-    check_alone(&rt, heap, "mark", MARKS)
+    check_alone(heap, "keyword", KEYWORDS)?;
+    check_alone(heap, "name", NAMES)?;
+    check_alone(heap, "mark", MARKS)
 }
 
 const LONGEST: [(&str, &str); 12] = [
@@ -127,7 +127,7 @@ const LONGEST: [(&str, &str); 12] = [
 
 #[test]
 fn longest_token(rt: HostRuntime) -> Result<(), Fail> {
-    check_rows(&rt, rt.alloc(), &LONGEST)
+    check_rows(rt.alloc(), &LONGEST)
 }
 
 const GAPS: [(&str, &str); 15] = [
@@ -151,15 +151,14 @@ const GAPS: [(&str, &str); 15] = [
 #[test]
 fn gaps_and_other_bytes(rt: HostRuntime) -> Result<(), Fail> {
     let heap = rt.alloc();
-    check_items(&rt, heap, b"\xff", "no token at 0", "the byte 255")?;
+    check_items(heap, b"\xff", "no token at 0", "the byte 255")?;
     check_items(
-        &rt,
         heap,
         b"/*\x00\xff*/a",
         "name a at 6, end at 7",
         "any byte in a comment",
     )?;
-    check_rows(&rt, heap, &GAPS)
+    check_rows(heap, &GAPS)
 }
 
 const CONSTANTS: [(&str, &str); 11] = [
@@ -190,7 +189,7 @@ const CONSTANTS: [(&str, &str); 11] = [
 
 #[test]
 fn constants(rt: HostRuntime) -> Result<(), Fail> {
-    check_rows(&rt, rt.alloc(), &CONSTANTS)
+    check_rows(rt.alloc(), &CONSTANTS)
 }
 
 // So many semicolons and then the tail.
@@ -201,7 +200,6 @@ fn semicolons(heap: Global, count: usize, tail: &str) -> Result<Vec<u8>, AllocEr
 }
 
 fn check_last(
-    rt: &impl Abort,
     heap: Global,
     source: &[u8],
     count: usize,
@@ -212,18 +210,20 @@ fn check_last(
     list.fill(b"what the list had before");
     list.fill(source);
     let items = list.items();
-    assert_eq!(rt; items.len(), count, "of {what}");
+    let found = items.len();
+    if found != count {
+        return Err(Fail::new(format_args!("{what}: {found} items, not {count}")));
+    }
     let placed = items.last().ok_or("the list is empty")?;
     let text = item_text(heap, *placed)?;
-    assert_eq!(rt; text.as_str(), last, "of {what}");
-    Ok(())
+    check_text(text.as_str(), last, what)
 }
 
 #[test]
 fn limits(rt: HostRuntime) -> Result<(), Fail> {
     let heap = rt.alloc();
     let blanks = vec![in heap; b' '; 8192]?;
-    check_items(&rt, heap, &blanks, "end at 8192", "blanks alone")?;
+    check_items(heap, &blanks, "end at 8192", "blanks alone")?;
     let rows = [
         (2047, "", 2048, "end at 2047"),
         (2048, "", 2049, "end at 2048"),
@@ -235,23 +235,19 @@ fn limits(rt: HostRuntime) -> Result<(), Fail> {
     for (marks, tail, count, last) in rows {
         let source = semicolons(heap, marks, tail)?;
         let what = format!(in heap; "{marks} marks and then '{tail}'")?;
-        check_last(&rt, heap, &source, count, last, &what)?;
+        check_last(heap, &source, count, last, &what)?;
     }
     Ok(())
 }
 
-fn check_next(
-    rt: &impl Abort,
-    heap: Global,
-    lexer: &mut Lexer,
-    item: &str,
-    is_last: bool,
-) -> Result<(), Fail> {
+fn check_next(heap: Global, lexer: &mut Lexer, item: &str, is_last: bool) -> Result<(), Fail> {
     let placed = lexer.next_token();
     let text = item_text(heap, placed)?;
-    assert_eq!(rt; text.as_str(), item);
-    assert_eq!(rt; placed.token.is_last(), is_last, "{}", item);
-    Ok(())
+    check_text(text.as_str(), item, "the next token")?;
+    if placed.token.is_last() == is_last {
+        return Ok(());
+    }
+    Err(Fail::new(format_args!("{item}: last where it should not be, or the reverse")))
 }
 
 #[test]
@@ -265,9 +261,9 @@ fn last_item_stays(rt: HostRuntime) -> Result<(), Fail> {
     ];
     for (source, last) in rows {
         let mut lexer = Lexer::new(source.as_bytes());
-        check_next(&rt, heap, &mut lexer, "name a at 0", false)?;
-        check_next(&rt, heap, &mut lexer, last, true)?;
-        check_next(&rt, heap, &mut lexer, last, true)?;
+        check_next(heap, &mut lexer, "name a at 0", false)?;
+        check_next(heap, &mut lexer, last, true)?;
+        check_next(heap, &mut lexer, last, true)?;
     }
     assert_eq!(rt; Trouble::NoToken.number(), 2);
     assert_eq!(rt; Trouble::OpenComment.number(), 2);
