@@ -9,7 +9,7 @@ use Rattle.heap.specs.declared.types.Value.{Value}
 use Rattle.heap.specs.declared.types.HeapRefusal.TheVariants.{NotTaken, NoHold, TooManyHolds, KindChange, Full}
 use Rattle.heap.specs.Model as model
 use Rattle.heap.specs.Model.{taken, Model, room_at, slot_of, written, less_held, holds_of, taken_at, is_taken, held_at, names_only, same_kind, all_taken, freed, refuse, answer, after, Holds, hold_refusal, hold_done, LetsGo, let_go_refusal, let_go_done, Puts, put_refusal, put_done, Makes}
-use Rattle.heap.proofs.Places.{not_all_taken}
+use Rattle.heap.proofs.RoomAt.{not_all_taken}
 use Rattle.counting.specs.declared.cell.Cell.{Cell}
 use Rattle.counting.specs.declared.cell.Cell.TheVariants.{Free, Taken, Dying}
 use Rattle.counting.specs.declared.cell.Pair.{Pair}

@@ -14,7 +14,7 @@ use Rattle.heap.specs.declared.types.HeapRefusal.TheVariants.{NoHold}
 use Rattle.heap.specs.Model.{free, taken, Model, all_free, room_at, slot_of, held_at, taken_at, is_taken, holds_of, with_holds, freed, names_only, refuse, MakesBy, after, hold_refusal, hold_done, let_go_refusal}
 use Rattle.heap.specs.Counts.{room_names, count}
 use Rattle.heap.specs.Trace.{Event, Does, by_make, by_hold, by_let_go, by_look, by_put, Trace, done, next}
-use Rattle.heap.proofs.Places.{clash, no_slot, slot_taken, not_taken, same_room, other_room, freed_room, all_free_lem, holds_leave, holds_slot, holds_taken, held_named, after_both}
+use Rattle.heap.proofs.RoomAt.{clash, no_slot, slot_taken, not_taken, same_room, other_room, freed_room, all_free_lem, holds_leave, holds_slot, holds_taken, held_named, after_both}
 use Rattle.heap.proofs.Counted.{count_set, holds_count, uncounted, namer}
 use Rattle.counting.specs.Rule.{dead, last_dead, dead_in_turn, counting_rule, is_put, no_put, Drains}
 use Rattle.counting.specs.Settle.{Dead, dead_parts, quiet_by, loud, Round, one, round, rule_settles}

@@ -5,7 +5,7 @@ use Rattle.std.proofs.lemmas.List.{take_more_set, map_push, replicate_more, take
 use Rattle.std.proofs.lemmas.Bool.{cases_lt}
 use Rattle.heap.specs.Model.{free, all_free, room_at, is_taken}
 use Rattle.heap.specs.Counts.{count}
-use Rattle.heap.proofs.Places.{clash, all_free_lem}
+use Rattle.heap.proofs.RoomAt.{clash, all_free_lem}
 use Rattle.heap.proofs.Counted.{count_none}
 use Rattle.counting.specs.declared.cell.Cell.{Cell}
 use Rattle.counting.specs.declared.cell.Cell.TheVariants.{Free, Taken, Dying}

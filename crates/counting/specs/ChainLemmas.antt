@@ -3,7 +3,7 @@ use Rattle.std.specs.Prelude.{◌≡◌, ℕ, zero, suc, ◌<◌, true, List, []
 use Rattle.std.proofs.Common.{sym, ap, ◌∙◌, arith}
 use Rattle.std.proofs.lemmas.List.{get_or-set_same, set-set, set-get_or}
 use Rattle.counting.specs.Chain.{links, linked, onward, Linked}
-use Rattle.heap.proofs.Places.{clash}
+use Rattle.heap.proofs.RoomAt.{clash}
 
 no_some : {X : Type 0} {n : ℕ} → ◌≡◌ {A = Option ℕ} None (Some n) → X
 no_some e = let z : ◌≡◌ {A = ℕ} 0 1 = cc in absurd (omega arith)

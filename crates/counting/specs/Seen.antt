@@ -9,7 +9,7 @@ use Rattle.heap.specs.declared.types.Value.{Value}
 use Rattle.heap.specs.declared.types.Value.TheVariants.{At}
 use Rattle.heap.specs.Model.{free, room_at, is_taken}
 use Rattle.heap.specs.Counts.{names, room_names, count}
-use Rattle.heap.proofs.Places.{clash}
+use Rattle.heap.proofs.RoomAt.{clash}
 use Rattle.heap.proofs.Counted.{names_self, names_other, count_set}
 use Rattle.counting.specs.declared.cell.Cell.{Cell}
 use Rattle.counting.specs.declared.cell.Cell.TheVariants.{Free, Taken, Dying}

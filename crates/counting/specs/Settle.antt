@@ -9,7 +9,7 @@ use Rattle.heap.specs.Model.{free, taken, Model, room_at, slot_of, held_at, take
 use Rattle.heap.specs.Reach as reach
 use Rattle.heap.specs.Reach.{Safe, Reached, among}
 use Rattle.heap.specs.Counts.{count}
-use Rattle.heap.proofs.Places.{clash, within, slot_taken, not_taken, other_room, freed_room}
+use Rattle.heap.proofs.RoomAt.{clash, within, slot_taken, not_taken, other_room, freed_room}
 use Rattle.heap.proofs.Counted.{slot_counted, uncounted, namer}
 use Rattle.counting.specs.Rule.{dead, last_dead, dead_in_turn, counting_rule, Backed, by_hold, by_slot, Upheld, Frees, Settles, RuleSettles, OneResult}
 

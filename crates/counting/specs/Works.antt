@@ -11,7 +11,7 @@ use Rattle.heap.specs.declared.types.Value.TheVariants.{Number, Nil, At}
 use Rattle.heap.specs.Model.{free, taken, Model, room_at, slot_of, with_slot, written, taken_at, is_taken, holds_of, names_only}
 use Rattle.heap.specs.Counts.{names, room_names, count}
 use Rattle.heap.specs.Reach.{Closed}
-use Rattle.heap.proofs.Places.{clash}
+use Rattle.heap.proofs.RoomAt.{clash}
 use Rattle.heap.proofs.Counted.{names_self, namings_few, count_few, slot_counted}
 use Rattle.counting.specs.declared.cell.Cell.{Cell}
 use Rattle.counting.specs.declared.cell.Cell.TheVariants.{Free, Taken, Dying}

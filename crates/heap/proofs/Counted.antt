@@ -9,7 +9,7 @@ use Rattle.heap.specs.declared.types.Value.{Value}
 use Rattle.heap.specs.declared.types.Value.TheVariants.{Number, Nil, At}
 use Rattle.heap.specs.Model.{Room, free, taken, Model, all_free, room_at, slot_of, with_holds}
 use Rattle.heap.specs.Counts.{names, namings, room_names, count}
-use Rattle.heap.proofs.Places.{no_slot}
+use Rattle.heap.proofs.RoomAt.{no_slot}
 
 pub names_self : (q : Address) → names q.at (At q) ≡ 1
 names_self q = grind (arith, nat_tests)

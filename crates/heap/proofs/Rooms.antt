@@ -7,7 +7,7 @@ use Rattle.heap.specs.declared.types.Value.{Value}
 use Rattle.heap.specs.declared.types.Value.TheVariants.{Number, Nil, At}
 use Rattle.heap.specs.Model.{Room, free, taken, Model, all_free, room_at, is_taken, holds_of, slot_of, with_slot, with_holds, taken_at, held_at, all_taken, names_only, written}
 use Rattle.heap.specs.Reach.{Closed}
-use Rattle.heap.proofs.Places.{clash, holds_taken, all_free_lem}
+use Rattle.heap.proofs.RoomAt.{clash, holds_taken, all_free_lem}
 
 -- so is a place with a hold
 pub holds_within : (m : Model) (p : ℕ) → (holds_of (room_at m p) ≡ 0 → ⊥) → p < length m

@@ -4,9 +4,11 @@
 mod interface;
 mod kinds;
 mod numbers;
+mod places;
 mod release;
 mod types;
 
 pub use interface::Heap;
+pub use places::Places;
 pub use release::let_all_go;
 pub use types::{Address, HeapRefusal, Side, Value};

@@ -26,10 +26,7 @@ impl Cell {
     pub(crate) fn is_taken(self) -> bool
         ensures { result ≡ is_taken (room_of self) }
     {
-        match self {
-            Cell::Free => false,
-            Cell::Taken { .. } => true,
-        }
+        matches!(self, Cell::Taken { .. })
     }
 
     pub(crate) fn holds(self) -> u16

@@ -1,7 +1,7 @@
 use Rattle.std.proofs.Common.{sym, ◌∙◌}
 use Rattle.std.proofs.lemmas.Bool.{and_parts}
 use Rattle.heap.specs.Model.{names_only, held_at}
-use Rattle.heap.proofs.Places.{held_named}
+use Rattle.heap.proofs.RoomAt.{held_named}
 use Rattle.counting.specs.Cells.{places_in, rooms}
 use Rattle.counting.specs.Seen.{kept_none}
 use Rattle.counting.proofs.Calls.{makes_done, makes_full}
