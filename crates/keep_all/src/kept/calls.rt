@@ -5,7 +5,7 @@ ghost use Rattle.heap.specs.Places.{SameSpare};
 ghost use Rattle.heap.specs.Reach.{Closed};
 ghost use Rattle.keep_all.specs.Cells.{room_of, is_free};
 ghost use Rattle.keep_all.specs.Kept.{model_of, spare_of, FirstFree, TakesFirst, keeps_all, Keeps};
-ghost use Rattle.keep_all.specs.Writes.{heap_closed};
+ghost use Rattle.heap.proofs.Rooms.{closed_from_names};
 ghost use Rattle.std.proofs.Common.{rules, arith};
 
 use super::KeepAllHeap;
@@ -86,7 +86,7 @@ impl Heap for KeepAllHeap {
 
     ghost safe = { first_of (Prim.search rules, Prim.grind (arith, Self.row.coded.inj)) };
 
-    ghost closed = { λ h. heap_closed h };
+    ghost closed = { λ h. closed_from_names (model_of h) h.closed };
 
     fn make(&mut self, left: Value, right: Value) -> Result<Address, HeapRefusal>
         ensures makes { Makes keeps_all (model_of self.old) left right result (model_of self.new) }

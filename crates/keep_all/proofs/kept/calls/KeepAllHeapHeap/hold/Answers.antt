@@ -1,4 +1,4 @@
-use Rattle.keep_all.specs.Writes.{holds_closed}
+use Rattle.keep_all.proofs.Writes.{holds_closed}
 use Rattle.keep_all.proofs.kept.calls.KeepAllHeapHeap.hold.Goals as goal
 
 pub write-requires : goal.write-requires

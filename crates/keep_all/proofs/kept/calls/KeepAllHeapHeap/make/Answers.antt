@@ -1,5 +1,5 @@
 use Rattle.std.proofs.Common.{rules}
-use Rattle.keep_all.specs.Writes.{made_closed}
+use Rattle.keep_all.proofs.Writes.{made_closed}
 use Rattle.keep_all.proofs.kept.calls.KeepAllHeapHeap.make.Goals as goal
 
 pub write-requires : goal.write-requires
