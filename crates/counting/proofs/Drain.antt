@@ -16,8 +16,9 @@ use Rattle.heap.specs.Counts.{room_names, count}
 use Rattle.heap.specs.Trace.{Event, Does, by_make, by_hold, by_let_go, by_look, by_put, Trace, done, next}
 use Rattle.heap.proofs.RoomAt.{clash, no_slot, slot_taken, not_taken, same_room, other_room, freed_room, all_free_lem, holds_leave, holds_slot, holds_taken, held_named, after_both}
 use Rattle.heap.proofs.Counted.{count_set, holds_count, uncounted, namer}
+use Rattle.counting.specs.Laws.{Dead, dead_parts, Round, one, round}
 use Rattle.counting.specs.Rule.{dead, last_dead, dead_in_turn, counting_rule, is_put, no_put, Drains}
-use Rattle.counting.specs.Settle.{Dead, dead_parts, quiet_by, loud, Round, one, round, rule_settles}
+use Rattle.counting.proofs.Settle.{quiet_by, loud, rule_settles}
 
 record Aged (c : Model) : Type 0 where
   age : ℕ → ℕ

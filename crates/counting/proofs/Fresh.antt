@@ -7,12 +7,12 @@ use Rattle.heap.specs.Model.{free, all_free, room_at, is_taken}
 use Rattle.heap.specs.Counts.{count}
 use Rattle.heap.proofs.RoomAt.{clash, all_free_lem}
 use Rattle.heap.proofs.Counted.{count_none}
+use Rattle.counting.specs.Laws.{cell_room}
 use Rattle.counting.specs.declared.cell.Cell.{Cell}
 use Rattle.counting.specs.declared.cell.Cell.TheVariants.{Free, Taken, Dying}
 use Rattle.counting.specs.Chain.{links, linked, onward, Linked}
 use Rattle.counting.specs.Cells.{cell_at, room_of, rooms, named_of, next_free, quiet, Sound}
-use Rattle.counting.specs.ChainLemmas.{push}
-use Rattle.counting.specs.Seen.{cell_room}
+use Rattle.counting.proofs.Chains.{push}
 
 -- a place past the end that is in no chain
 get_or_none : (ns : List (Option ℕ)) (h : ℕ) → get_or (ns ++ None ∷ []) h None ≡ get_or ns h None

@@ -1,4 +1,4 @@
-use Rattle.counting.specs.Settle.{rule_settles, one_result, left_upheld}
+use Rattle.counting.proofs.Settle.{rule_settles, one_result, left_upheld}
 use Rattle.counting.proofs.Drain.{drains}
 use Rattle.counting.proofs.counting_heap.CountingHeap.new.Goals as goal
 

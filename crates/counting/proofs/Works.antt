@@ -13,6 +13,7 @@ use Rattle.heap.specs.Counts.{names, room_names, count}
 use Rattle.heap.specs.Reach.{Closed}
 use Rattle.heap.proofs.RoomAt.{clash}
 use Rattle.heap.proofs.Counted.{names_self, namings_few, count_few, slot_counted}
+use Rattle.counting.specs.Laws.{Dead, cell_room, named_taken}
 use Rattle.counting.specs.declared.cell.Cell.{Cell}
 use Rattle.counting.specs.declared.cell.Cell.TheVariants.{Free, Taken, Dying}
 use Rattle.counting.specs.declared.cell.Pair.{Pair}
@@ -20,9 +21,9 @@ use Rattle.counting.specs.Rule.{Frees, Settles}
 use Rattle.counting.specs.Chain.{links, Linked}
 use Rattle.counting.specs.Cells.{cell_at, room_of, rooms, named_of, next_free, next_dying, quiet, Sound}
 use Rattle.counting.specs.Work.{quiet_or_dying, Owing, Working, Settled, with_holds, with_named, raise_cell, raised, last_name, lower_cell, lowered, lower_head, lowered_head, with_slot_of, named_by, is_at}
-use Rattle.counting.specs.Settle.{Dead, quiet_by, frees_none, frees_one, takens, takens_fall}
-use Rattle.counting.specs.ChainLemmas.{no_links, linked_none, ends}
-use Rattle.counting.specs.Seen.{cell_room, inside, dying_at, free_at, every_set, same_at, map_same, count_cell, less_at, more_at, linked_pop, linked_push, linked_same, some_free, free_within}
+use Rattle.counting.proofs.Settle.{quiet_by, frees_none, frees_one, takens, takens_fall}
+use Rattle.counting.proofs.Chains.{no_links, linked_none, ends}
+use Rattle.counting.proofs.Seen.{inside, dying_at, free_at, every_set, same_at, map_same, count_cell, less_at, more_at, linked_pop, linked_push, linked_same, some_free, free_within}
 
 -- the first of the dying is freed, and its slots are owed
 work_drop : {c : Model} {xs : List Cell} {f d n : ℕ} {l r : Value} → Working c xs f d [] → cell_at xs d ≡ Dying l r n → Working c (slice_set xs d (Free f)) d n (l ∷ (r ∷ []))
@@ -51,11 +52,6 @@ pub owed_named : {c : Model} {xs : List Cell} {f d : ℕ} {v : Value} {os : List
 owed_named {v = Number z} w e = clash (sym e)
 owed_named {v = Nil} w e = clash (sym e)
 owed_named {v = At q} w e = let a = w.counted q.at in let b = names_self q in omega arith
-
-named_taken : (x : Cell) → 0 < named_of x → is_taken (room_of x) ≡ true
-named_taken (Free n) h = absurd (omega arith)
-named_taken (Taken x) h = refl
-named_taken (Dying l r n) h = refl
 
 -- one slot less names q: its cell x then, and the first dying place e
 record Lower (xs : List Cell) (d : ℕ) (q : Address) (x : Cell) (e : ℕ) : Type 0 where
@@ -370,10 +366,3 @@ settled_still {ys} {f} e s = subst (λ c. Settled c ys f) e (record { settles = 
 
 pub settled_from : {b c : Model} {ys : List Cell} {f : ℕ} → b ≡ c → Settled b ys f → Settled c ys f
 settled_from {ys = ys} {f = f} e w = subst (λ c. Settled c ys f) e w
-
--- right counts: a place that a slot names is taken
-pub sound_closed : (xs : List Cell) (f : ℕ) → Sound xs f → Closed (rooms xs)
-sound_closed xs f s p side q is =
-    let a = slot_counted (rooms xs) p side q is in
-    let b = s.0 q.at in
-    ap is_taken (cell_room xs q.at) ∙ named_taken (cell_at xs q.at) (omega arith)
