@@ -1,5 +1,5 @@
 -- The cells that a heap is made over, read and written. Assumes nothing.
-use Rattle.std.proofs.Common.{◌≡◌, ℕ, min, List, length, Some, None, Option, sym, refl, ◌∙◌, slice_get, Bor, length-take}
+use Rattle.std.proofs.Common.{◌≡◌, ℕ, ◌≤◌, min, List, length, take, Some, None, Option, sym, refl, ◌∙◌, slice_get, Bor, arith, length-take, take_all}
 use Rattle.std.specs.Option.{option_copied}
 use Rattle.std.specs.Slice.{IsItemAt}
 use Rattle.std.proofs.lemmas.Option.{slice_get_read, slice_get_past}
@@ -19,3 +19,10 @@ spare_then a b = record { spare = b.spare ∙ a.spare; count = b.count ∙ a.cou
 
 pub places_count : {C : Type 0} (p : Places C) → length (places_of p) ≡ min 1024 (length p.cells.items)
 places_count p = length-take 1024 p.cells.items
+
+-- as many places, and all of them
+pub places_stay : {C : Type 0} {p q : Places C} → SameSpare p q → length (places_of q) ≡ length (places_of p)
+places_stay {p = p} {q = q} s = let before = places_count p in let now = places_count q in let same = s.count in omega arith
+
+pub all_places : {C : Type 0} {p q : Places C} (i : ℕ) → SameSpare p q → length (places_of p) ≤ i → take i (places_of q) ≡ places_of q
+all_places {q = q} i s h = let same = places_stay s in take_all i (places_of q) (omega arith)

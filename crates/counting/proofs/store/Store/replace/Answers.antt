@@ -15,8 +15,5 @@ lower-dying-requires c = owed_named (put_owing c.requires c.raise.ensures.cells 
 pub settle-requires : goal.settle-requires
 settle-requires c = put_work c.requires c.raise.ensures.cells c.set_slot.ensures.cells c.lower-dying.ensures.cells c.lower-dying.ensures.head
 
-pub returns : goal.returns
-returns c = record {
-  cells = settled_from (put_rooms c.requires c.raise.ensures.cells c.set_slot.ensures.cells c.lower-dying.ensures.cells) c.settle.ensures.cells;
-  spare = spare_then c.raise.ensures.spare (spare_then c.set_slot.ensures.spare (spare_then c.lower-dying.ensures.spare c.settle.ensures.spare));
-}
+pub returns-clause-cells : goal.returns-clause-cells
+returns-clause-cells c = settled_from (put_rooms c.requires c.raise.ensures.cells c.set_slot.ensures.cells c.lower-dying.ensures.cells) c.settle.ensures.cells

@@ -12,10 +12,9 @@ raise-requires c = own_small c.args.left (owing_none (places_in c.args.self.now)
 pub raise-requires-2 : goal.raise-requires-2
 raise-requires-2 c = own_small c.args.right (take_once c.requires c.raise.ensures.cells) (first_few 1024 c.raise.new.places.cells.items) (omega arith)
 
-pub returns : goal.returns
-returns c = record {
-  place = refl;
-  sound = own_take (take_twice c.requires c.raise.ensures.cells c.raise-2.ensures.cells) (take_free c.requires c.raise.ensures.cells c.raise-2.ensures.cells) refl refl c.set.ensures.places;
-  rooms = take_rooms c.requires c.raise.ensures.cells c.raise-2.ensures.cells _ c.set.ensures.places;
-  spare = spare_then c.raise.ensures.spare (spare_then c.raise-2.ensures.spare c.set.ensures.spare);
-}
+pub returns-clause-sound : goal.returns-clause-sound
+returns-clause-sound c =
+    own_take (take_twice c.requires c.raise.ensures.cells c.raise-2.ensures.cells) (take_free c.requires c.raise.ensures.cells c.raise-2.ensures.cells) refl refl c.set.ensures.places
+
+pub returns-clause-rooms : goal.returns-clause-rooms
+returns-clause-rooms c = take_rooms c.requires c.raise.ensures.cells c.raise-2.ensures.cells _ c.set.ensures.places

@@ -11,23 +11,17 @@ use Rattle.counting.proofs.store.Store.unhold.Goals as goal
 pub settle-requires : goal.settle-requires
 settle-requires c = work_last (places_in c.args.self.now) c.args.self.now.free c.args.place.at 0 c.requires.sound c.requires.found (omega arith) c.set.ensures.places
 
-pub returns-then-pair-eq0 : goal.returns-then-pair-eq0
-returns-then-pair-eq0 c =
+pub returns-then-pair-eq0-clause-cells : goal.returns-then-pair-eq0-clause-cells
+returns-then-pair-eq0-clause-cells c =
     let xs = places_in c.args.self.now in
     let x = c.args.pair in
     let p = c.args.place.at in
-    record {
-      cells = settled_from (ap rooms c.set.ensures.places ∙ map-set room_of xs p (Dying x.left x.right 0) ∙ ap (λ n. set (rooms xs) p (taken x.left x.right n)) (omega arith)) c.settle.ensures.cells;
-      spare = spare_then c.set.ensures.spare c.settle.ensures.spare;
-    }
+    settled_from (ap rooms c.set.ensures.places ∙ map-set room_of xs p (Dying x.left x.right 0) ∙ ap (λ n. set (rooms xs) p (taken x.left x.right n)) (omega arith)) c.settle.ensures.cells
 
-pub returns : goal.returns
-returns c =
+pub returns-clause-cells : goal.returns-clause-cells
+returns-clause-cells c =
     let xs = places_in c.args.self.now in
     let x = c.args.pair in
     let p = c.args.place.at in
     let h : 0 < (x.holds - 1) + x.named = let held = c.requires.held in grind arith in
-    record {
-      cells = settled_still (ap rooms c.set-2.ensures.places ∙ map-set room_of xs p (with_holds x (x.holds - 1))) (sound_holds xs c.args.self.now.free p (x.holds - 1) c.requires.sound c.requires.found h c.set-2.ensures.places);
-      spare = c.set-2.ensures.spare;
-    }
+    settled_still (ap rooms c.set-2.ensures.places ∙ map-set room_of xs p (with_holds x (x.holds - 1))) (sound_holds xs c.args.self.now.free p (x.holds - 1) c.requires.sound c.requires.found h c.set-2.ensures.places)

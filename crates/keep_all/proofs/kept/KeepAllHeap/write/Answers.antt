@@ -11,8 +11,5 @@ invariant_of-self c =
     let same = ap (map room_of) c.set.ensures.places ∙ map-set room_of (places_of c.args.self.now.places) c.args.place.at c.args.cell in
     record { closed = names_from_closed _ (subst Closed (sym same) c.requires) }
 
-pub returns : goal.returns
-returns c = record {
-  model = ap (map room_of) c.set.ensures.places ∙ map-set room_of (places_of c.args.self.now.places) c.args.place.at c.args.cell;
-  spare = c.set.ensures.spare;
-}
+pub returns-clause-model : goal.returns-clause-model
+returns-clause-model c = ap (map room_of) c.set.ensures.places ∙ map-set room_of (places_of c.args.self.now.places) c.args.place.at c.args.cell

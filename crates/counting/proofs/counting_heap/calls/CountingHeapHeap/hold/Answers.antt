@@ -1,19 +1,15 @@
-use Rattle.std.proofs.Common.{◌+◌, subst, arith, rules}
+use Rattle.std.proofs.Common.{◌+◌, arith, rules}
 use Rattle.counting.specs.Cells.{places_in}
-use Rattle.counting.specs.Work.{Finds, Sees}
 use Rattle.counting.proofs.Works.{sound_holds}
-use Rattle.counting.proofs.Calls.{holds_done, some_of}
+use Rattle.counting.proofs.Calls.{holds_done, seen}
 use Rattle.counting.proofs.counting_heap.calls.CountingHeapHeap.hold.Goals as goal
 
 pub invariant_of-self : goal.invariant_of-self
 invariant_of-self c =
-    let sees : Sees (places_in c.args.self.now.store) c.args.place.at c.in_ok-pair.pair = subst (Finds (places_in c.args.self.now.store) c.args.place.at) (some_of _ c.find.result c.in_ok-pair.ensures.value) c.find.ensures in
+    let sees = seen (places_in c.args.self.now.store) c.args.place.at _ c.find.result c.find.ensures c.in_ok-pair.ensures.value in
     record { sound = sound_holds (places_in c.args.self.now.store) c.args.self.now.store.free c.args.place.at (c.in_ok-pair.pair.holds + 1) c.args.self.now.sound sees.cell (omega arith) c.set.ensures.places }
 
-pub returns : goal.returns
-returns c =
-    let sees : Sees (places_in c.args.self.now.store) c.args.place.at c.in_ok-pair.pair = subst (Finds (places_in c.args.self.now.store) c.args.place.at) (some_of _ c.find.result c.in_ok-pair.ensures.value) c.find.ensures in
-    record {
-      call = holds_done (places_in c.args.self.now.store) _ c.args.place c.in_ok-pair.pair sees.room (search rules) c.set.ensures.places;
-      rest = c.set.ensures.spare;
-    }
+pub returns-clause-call : goal.returns-clause-call
+returns-clause-call c =
+    let sees = seen (places_in c.args.self.now.store) c.args.place.at _ c.find.result c.find.ensures c.in_ok-pair.ensures.value in
+    holds_done (places_in c.args.self.now.store) _ c.args.place c.in_ok-pair.pair sees.room (search rules) c.set.ensures.places

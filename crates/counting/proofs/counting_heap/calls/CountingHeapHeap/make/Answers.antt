@@ -1,4 +1,4 @@
-use Rattle.std.proofs.Common.{◌≡◌, None, Err, rules, map, slice_index_or, sym, ap, ◌∙◌}
+use Rattle.std.proofs.Common.{◌≡◌, ℕ, None, Err, rules, map, slice_index_or, sym, ap, ◌∙◌}
 use Rattle.std.proofs.lemmas.Bool.{and_parts}
 use Rattle.heap.specs.declared.types.HeapRefusal.TheVariants.{Full}
 use Rattle.heap.specs.Model.{names_only, held_at}
@@ -19,16 +19,14 @@ take-requires c =
       next = sym c.next_free.ensures ∙ some_of _ c.next_free.result c.in_ok-next.ensures.value;
     }
 
-pub returns-in_err-next : goal.returns-in_err-next
-returns-in_err-next c =
+pub returns-in_err-next-clause-call : goal.returns-in_err-next-clause-call
+returns-in_err-next-clause-call c =
     let full : c.from_residual.result ≡ Err Full = search rules in
-    record {
-  call = rw full (makes_full (places_in c.args.self.now.store) c.args.left c.args.right (sym c.both_held.ensures ∙ c.if-not-both_held.false) c.args.self.now.store.free c.args.self.now.sound (sym (none_of _ c.next_free.result c.in_err-next.ensures.value) ∙ c.next_free.ensures));
-  rest = same_spare;
-}
+    let none = sym (none_of _ c.next_free.result c.in_err-next.ensures.value) ∙ c.next_free.ensures in
+    rw full (makes_full (places_in c.args.self.now.store) c.args.left c.args.right (sym c.both_held.ensures ∙ c.if-not-both_held.false) c.args.self.now.store.free c.args.self.now.sound none)
 
-pub returns : goal.returns
-returns c = record {
-  call = makes_done (places_in c.args.self.now.store) c.args.left c.args.right (sym c.both_held.ensures ∙ c.if-not-both_held.false) _ _ c.in_ok-next.next (ap (λ f. slice_index_or (map next_free (places_in c.args.self.now.store)) f None) c.take.ensures.place ∙ sym c.next_free.ensures ∙ some_of _ c.next_free.result c.in_ok-next.ensures.value) c.take.ensures.rooms;
-  rest = c.take.ensures.spare;
-}
+pub returns-clause-call : goal.returns-clause-call
+returns-clause-call c =
+    let link = λ (f : ℕ). slice_index_or (map next_free (places_in c.args.self.now.store)) f None in
+    let next = ap link c.take.ensures.place ∙ sym c.next_free.ensures ∙ some_of _ c.next_free.result c.in_ok-next.ensures.value in
+    makes_done (places_in c.args.self.now.store) c.args.left c.args.right (sym c.both_held.ensures ∙ c.if-not-both_held.false) _ _ c.in_ok-next.next next c.take.ensures.rooms
