@@ -12,7 +12,6 @@ use Rattle.heap.specs.declared.types.Value.{Value}
 use Rattle.heap.specs.declared.types.Value.TheVariants.{At}
 use Rattle.heap.specs.Model.{free, room_at, is_taken}
 use Rattle.heap.specs.Counts.{names, room_names, count}
-use Rattle.heap.proofs.RoomAt.{clash}
 use Rattle.heap.proofs.Counted.{names_self, names_other, count_set}
 use Rattle.counting.specs.declared.cell.Cell.{Cell}
 use Rattle.counting.specs.declared.cell.Cell.TheVariants.{Free, Taken, Dying}
@@ -29,17 +28,11 @@ first_within n xs i h = let e = length-take n xs in (omega arith, omega arith)
 pub first_few : (n : ℕ) (xs : List Cell) → length (take n xs) ≤ n
 first_few n xs = let e = length-take n xs in omega arith
 
-pub first_read : (n : ℕ) (xs : List Cell) (i : ℕ) (x : Cell) → i < length (take n xs) → x ≡ slice_index_or xs i x → x ≡ cell_at (take n xs) i
-first_read n xs i x h e = let w = first_within n xs i h in get_or_read xs i x w.1 e (Free 0) ∙ sym (get_or-take n xs i (Free 0) w.0)
-
 -- a cell
 pub inside : (xs : List Cell) (p : ℕ) → is_taken (room_of (cell_at xs p)) ≡ true → p < length xs
-inside [] p e = clash (sym e)
+inside [] p e = cc
 inside (x ∷ xs) zero e = omega arith
 inside (x ∷ xs) (suc p) e = let h = inside xs p e in omega arith
-
-pub cell_within : (xs : List Cell) (p : ℕ) {x : Cell} → x ≡ cell_at xs p → is_taken (room_of x) ≡ true → p < length xs
-cell_within xs p e t = inside xs p (ap (λ x. is_taken (room_of x)) (sym e) ∙ t)
 
 pub dying_at : (xs : List Cell) (p : ℕ) → slice_index_or (map next_dying xs) p None ≡ next_dying (cell_at xs p)
 dying_at xs p = ListN.get_or-map next_dying xs p (Free 0)
@@ -122,14 +115,14 @@ not_free (Dying l r n) h = refl
 
 -- a free place
 some_within : (ns : List (Option ℕ)) (p n : ℕ) → slice_index_or ns p None ≡ Some n → p < length ns
-some_within [] p n e = let z : ◌≡◌ {A = ℕ} 0 1 = cc in absurd (omega arith)
+some_within [] p n e = cc
 some_within (o ∷ ns) zero n e = omega arith
 some_within (o ∷ ns) (suc p) n e = let h = some_within ns p n e in omega arith
 
 pub some_free : (x : Cell) (n : ℕ) → next_free x ≡ Some n → (named_of x ≡ 0) × (room_of x ≡ free)
 some_free (Free m) n e = (refl, refl)
-some_free (Taken y) n e = let z : ◌≡◌ {A = ℕ} 0 1 = cc in absurd (omega arith)
-some_free (Dying l r m) n e = let z : ◌≡◌ {A = ℕ} 0 1 = cc in absurd (omega arith)
+some_free (Taken y) n e = cc
+some_free (Dying l r m) n e = cc
 
 pub free_within : (xs : List Cell) (f n : ℕ) → slice_index_or (map next_free xs) f None ≡ Some n → f < length xs
 free_within xs f n e = let h = some_within (map next_free xs) f n e in omega (arith, length-map xs next_free)

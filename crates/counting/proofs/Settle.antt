@@ -9,7 +9,7 @@ use Rattle.heap.specs.Model.{free, taken, Model, room_at, slot_of, held_at, take
 use Rattle.heap.specs.Reach as reach
 use Rattle.heap.specs.Reach.{Safe, Reached, among}
 use Rattle.heap.specs.Counts.{count}
-use Rattle.heap.proofs.RoomAt.{clash, within, slot_taken, not_taken, other_room, freed_room}
+use Rattle.heap.proofs.RoomAt.{within, slot_taken, not_taken, other_room, freed_room}
 use Rattle.heap.proofs.Counted.{slot_counted, uncounted, namer}
 use Rattle.counting.specs.Laws.{Dead, dead_parts, Round, nothing, one, round}
 use Rattle.counting.specs.Rule.{dead, last_dead, dead_in_turn, counting_rule, Backed, by_hold, by_slot, Upheld, Frees, Settles, RuleSettles, OneResult}
@@ -21,7 +21,7 @@ pub quiet_by : (c : Model) (p : ℕ) → (Dead c p → ⊥) → dead c p ≡ fal
 quiet_by c p f = elim (cases_Bool (dead c p)) [ inl e ↦ absurd (f (dead_parts c p e)) | inr e ↦ e ]
 
 pub loud : (c : Model) (p : ℕ) → dead c p ≡ false → Dead c p → ⊥
-loud c p e d = clash (sym (dead_from c p d) ∙ e)
+loud c p e d = cc (sym (dead_from c p d) ∙ e)
 
 pub frees_none : (c : Model) → Frees c c
 frees_none c = record { long = refl; same = λ p t. refl; keeps = λ S u p e. u.taken p e }
@@ -33,7 +33,7 @@ apart {c} {d} {p} f h S u e = by (u.backed p e)
     by : Backed c S p → ⊥
     by (by_hold k) =
         let s : held_at d p ≡ held_at c p = ap (λ x. nat_lt 0 (holds_of x)) (f.same p (f.keeps S u p e)) in
-        clash (sym (s ∙ k) ∙ h.unheld)
+        cc (sym (s ∙ k) ∙ h.unheld)
     by (by_slot q s k i is at) =
         let w : slot_of (room_at d q) s ≡ At k = ap (λ x. slot_of x s) (f.same q (f.keeps S u q i)) ∙ is in
         uncounted d p q s k h.unnamed w at
@@ -42,7 +42,7 @@ pub frees_one : {c d : Model} {p : ℕ} → Frees c d → Dead d p → Frees c (
 frees_one {c} {d} {p} f h = record {
   long = length-set d p free ∙ f.long;
   same = λ q t. elim (cases_eq q p) [
-    | inl e ↦ clash (sym t ∙ ap (λ i. taken_at (slice_set d p free) i) e ∙ ap is_taken (freed_room d p))
+    | inl e ↦ cc (sym t ∙ ap (λ i. taken_at (slice_set d p free) i) e ∙ ap is_taken (freed_room d p))
     | inr ne ↦ other_room d p q free ne ∙ f.same q (ap is_taken (sym (other_room d p q free ne)) ∙ t)
   ];
   keeps = λ S u q i. elim (cases_eq q p) [
@@ -68,8 +68,8 @@ one_result c d e s t = ext_get_or free d e (s.frees.long ∙ sym t.frees.long) (
   where
     at : (p : ℕ) → (taken_at d p ≡ true) ⊎ (taken_at d p ≡ false) → (taken_at e p ≡ true) ⊎ (taken_at e p ≡ false) → room_at d p ≡ room_at e p
     at p (inl a) (inl b) = s.frees.same p a ∙ sym (t.frees.same p b)
-    at p (inl a) (inr b) = clash (sym (t.frees.keeps (taken_at d) (left_upheld s.frees s.none_dead) p a) ∙ b)
-    at p (inr a) (inl b) = clash (sym (s.frees.keeps (taken_at e) (left_upheld t.frees t.none_dead) p b) ∙ a)
+    at p (inl a) (inr b) = cc (sym (t.frees.keeps (taken_at d) (left_upheld s.frees s.none_dead) p a) ∙ b)
+    at p (inr a) (inl b) = cc (sym (s.frees.keeps (taken_at e) (left_upheld t.frees t.none_dead) p b) ∙ a)
     at p (inr a) (inr b) = not_taken _ a ∙ sym (not_taken _ b)
 
 abbrev pub takens : Model → ℕ
@@ -83,8 +83,8 @@ takens_few (free ∷ c) = let h = takens_few c in omega arith
 takens_few (taken l r n ∷ c) = let h = takens_few c in omega arith
 
 pub takens_fall : (c : Model) (p : ℕ) → taken_at c p ≡ true → suc (takens (slice_set c p free)) ≡ takens c
-takens_fall [] p e = clash (sym e)
-takens_fall (free ∷ c) zero e = clash (sym e)
+takens_fall [] p e = cc
+takens_fall (free ∷ c) zero e = cc
 takens_fall (taken l r n ∷ c) zero e = refl
 takens_fall (free ∷ c) (suc p) e = takens_fall c p e
 takens_fall (taken l r n ∷ c) (suc p) e = ap suc (takens_fall c p e)
@@ -105,7 +105,7 @@ still (suc n) c f = step (still n c f) (last_dead c (length c)) (round c (length
   where
     step : dead_in_turn n c ≡ [] → (ps : List ℕ) → Round c (length c) ps → ps ++ dead_in_turn n (freed ps c) ≡ []
     step go [] r = go
-    step go (p ∷ []) (one q d) = clash (sym d ∙ f q)
+    step go (p ∷ []) (one q d) = cc (sym d ∙ f q)
     step go (p ∷ (j ∷ ps)) r = elim r [ ]
 
 pub rounds_settle : (n : ℕ) (c d : Model) → Frees c d → takens d ≤ n → Settles c (freed (dead_in_turn n d) d)

@@ -11,7 +11,6 @@ use Rattle.heap.specs.declared.types.Value.TheVariants.{Number, Nil, At}
 use Rattle.heap.specs.Model.{free, taken, Model, room_at, slot_of, with_slot, written, taken_at, is_taken, holds_of, names_only}
 use Rattle.heap.specs.Counts.{names, room_names, count}
 use Rattle.heap.specs.Reach.{Closed}
-use Rattle.heap.proofs.RoomAt.{clash}
 use Rattle.heap.proofs.Counted.{names_self, namings_few, count_few, slot_counted}
 use Rattle.counting.specs.Laws.{Dead, cell_room, named_taken}
 use Rattle.counting.specs.declared.cell.Cell.{Cell}
@@ -49,8 +48,8 @@ work_drop {c} {xs} {f} {d} {n} {l} {r} w is =
 
 -- what is owed is counted
 pub owed_named : {c : Model} {xs : List Cell} {f d : ℕ} {v : Value} {os : List Value} → Working c xs f d (v ∷ os) → is_at v ≡ true → 0 < named_by v xs
-owed_named {v = Number z} w e = clash (sym e)
-owed_named {v = Nil} w e = clash (sym e)
+owed_named {v = Number z} w e = cc
+owed_named {v = Nil} w e = cc
 owed_named {v = At q} w e = let a = w.counted q.at in let b = names_self q in omega arith
 
 -- one slot less names q: its cell x then, and the first dying place e
@@ -111,12 +110,12 @@ work_lower {c} {xs} {f} {d} {os} (At q) w =
 
 -- a sound list of cells has no dead place
 quiet_alive : (c : Model) (p : ℕ) (x : Cell) → room_at c p ≡ room_of x → named_of x ≡ count p c → quiet x ≡ true → Dead c p → ⊥
-quiet_alive c p (Free n) r m e d = clash (sym d.taken_here ∙ ap is_taken r)
+quiet_alive c p (Free n) r m e d = cc (sym d.taken_here ∙ ap is_taken r)
 quiet_alive c p (Taken x) r m e d =
     let a : nat_lt 0 x.holds ≡ false = sym (ap (λ y. nat_lt 0 (holds_of y)) r) ∙ d.unheld in
     let b = d.unnamed in
     grind (arith, nat_tests)
-quiet_alive c p (Dying l s n) r m e d = clash (sym e)
+quiet_alive c p (Dying l s n) r m e d = cc
 
 sound_settles : (xs : List Cell) (f : ℕ) → Sound xs f → Settles (rooms xs) (rooms xs)
 sound_settles xs f s = record { frees = frees_none (rooms xs); none_dead = λ p. quiet_by (rooms xs) p (quiet_alive (rooms xs) p (cell_at xs p) (cell_room xs p) (s.0 p) (s.1 p)) }
@@ -124,7 +123,7 @@ sound_settles xs f s = record { frees = frees_none (rooms xs); none_dead = λ p.
 dying_or_quiet : (x : Cell) → quiet_or_dying x ≡ true → next_dying x ≡ None → quiet x ≡ true
 dying_or_quiet (Free n) b e = refl
 dying_or_quiet (Taken x) b e = b
-dying_or_quiet (Dying l r n) b e = let z : ◌≡◌ {A = ℕ} 0 1 = cc in absurd (omega arith)
+dying_or_quiet (Dying l r n) b e = cc
 
 quiet_or_dying_lem : (x : Cell) → quiet x ≡ true → quiet_or_dying x ≡ true
 quiet_or_dying_lem (Free n) b = refl
@@ -202,7 +201,7 @@ quiet_links : (xs : List Cell) → ((p : ℕ) → quiet (cell_at xs p) ≡ true)
 quiet_links [] f = refl
 quiet_links (Free n ∷ xs) f = quiet_links xs (λ p. f (suc p))
 quiet_links (Taken x ∷ xs) f = quiet_links xs (λ p. f (suc p))
-quiet_links (Dying l r n ∷ xs) f = clash (sym (f 0))
+quiet_links (Dying l r n ∷ xs) f = cc (sym (f 0))
 
 pub work_owing : {xs : List Cell} {f : ℕ} {os : List Value} (d : ℕ) → Owing xs f os → Working (rooms xs) xs f d os
 work_owing {xs} d o = record {
@@ -219,9 +218,9 @@ record Raise (x : Cell) : Type 0 where
   still : quiet (raise_cell x) ≡ true
 
 raise_cell_lem : (x : Cell) → is_taken (room_of x) ≡ true → quiet x ≡ true → Raise x
-raise_cell_lem (Free n) t q = clash (sym t)
+raise_cell_lem (Free n) t q = cc
 raise_cell_lem (Taken x) t q = record { more = refl; still = grind (arith, nat_tests) }
-raise_cell_lem (Dying l r n) t q = clash (sym q)
+raise_cell_lem (Dying l r n) t q = cc
 
 raise_room : (x : Cell) → room_of (raise_cell x) ≡ room_of x
 raise_room (Free n) = refl
@@ -284,10 +283,10 @@ record Swap (x : Cell) (s : Side) (v : Value) : Type 0 where
   link : next_free (with_slot_of x s v) ≡ next_free x
 
 swap_cell : (x : Cell) (s : Side) (v : Value) → is_taken (room_of x) ≡ true → quiet x ≡ true → Swap x s v
-swap_cell (Free n) s v t q = clash (sym t)
+swap_cell (Free n) s v t q = cc
 swap_cell (Taken x) Left v t q = record { count = refl; room = refl; names = λ p. omega arith; still = refl; link = refl }
 swap_cell (Taken x) Right v t q = record { count = refl; room = refl; names = λ p. omega arith; still = refl; link = refl }
-swap_cell (Dying l r n) s v t q = clash (sym q)
+swap_cell (Dying l r n) s v t q = cc
 
 pub own_swap : {xs ys : List Cell} {f : ℕ} {v : Value} (p : ℕ) (s : Side) → Owing xs f (v ∷ []) → is_taken (room_of (cell_at xs p)) ≡ true → ys ≡ slice_set xs p (with_slot_of (cell_at xs p) s v) → Owing ys f (slot_of (room_of (cell_at xs p)) s ∷ [])
 own_swap {xs} {ys} {f} {v} p s o t e =

@@ -9,7 +9,7 @@ use Rattle.heap.specs.Model.{free, taken, Model, room_at, slot_of, held_at, take
 use Rattle.heap.specs.Reach as reach
 use Rattle.heap.specs.Reach.{Safe, Reached, Closed, among}
 use Rattle.heap.specs.Counts.{count}
-use Rattle.heap.proofs.RoomAt.{clash, other_room}
+use Rattle.heap.proofs.RoomAt.{other_room}
 use Rattle.heap.proofs.Counted.{slot_counted}
 use Rattle.counting.specs.declared.cell.Cell.{Cell}
 use Rattle.counting.specs.declared.cell.Cell.TheVariants.{Free, Taken, Dying}
@@ -42,7 +42,7 @@ round c (suc n) = step (dead c n) refl (last_dead c n) (round c n)
 
 -- what is reached is not dead, and stays reached
 reached_alive : (c : Model) (p : ℕ) → Reached c p → Dead c p → ⊥
-reached_alive c p (reach.held q h) e = clash (sym h ∙ e.unheld)
+reached_alive c p (reach.held q h) e = cc (sym h ∙ e.unheld)
 reached_alive c p (reach.named q k s r is) e = let h = slot_counted c q s k is in let z = e.unnamed in omega arith
 
 reached_stays : (c : Model) (q : ℕ) (p : ℕ) → Dead c q → Reached c p → Reached (slice_set c q free) p
@@ -58,7 +58,7 @@ reached_stays c q p d (reach.named j k s r is) =
     ]
 
 dead_in_turn_lost : (n : ℕ) (c : Model) (p : ℕ) → among p (dead_in_turn n c) ≡ true → Reached c p → ⊥
-dead_in_turn_lost zero c p e r = clash (sym e)
+dead_in_turn_lost zero c p e r = cc
 dead_in_turn_lost (suc n) c p e r = step (λ d. dead_in_turn_lost n d p) (last_dead c (length c)) (round c (length c)) e
   where
     step : ((d : Model) → among p (dead_in_turn n d) ≡ true → Reached d p → ⊥) → (ps : List ℕ) → Round c (length c) ps → among p (ps ++ dead_in_turn n (freed ps c)) ≢ true
@@ -73,7 +73,7 @@ dead_in_turn_lost (suc n) c p e r = step (λ d. dead_in_turn_lost n d p) (last_d
 
 pub rule_safe : Safe counting_rule
 rule_safe = record {
-  make = λ c p e r. clash (sym e);
+  make = λ c p e r. cc;
   let_go = λ c p e r. dead_in_turn_lost (length c) c p e r;
   put = λ c p e r. dead_in_turn_lost (length c) c p e r;
 }

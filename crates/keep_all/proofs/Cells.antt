@@ -11,7 +11,7 @@ use Rattle.std.proofs.lemmas.List.{take_more_set, map_push, replicate_more}
 use Rattle.std.proofs.lemmas.Option.{unwrap_or-slice_get}
 use Rattle.heap.specs.declared.types.Address.{Address}
 use Rattle.heap.specs.Model.{Model, free, taken, room_at, is_taken, taken_at, all_free, all_taken}
-use Rattle.heap.proofs.RoomAt.{clash, not_all_taken}
+use Rattle.heap.proofs.RoomAt.{not_all_taken}
 use Rattle.keep_all.specs.declared.cell.Cell.{Cell}
 use Rattle.keep_all.specs.declared.cell.Cell.TheVariants.{Free, Taken}
 use Rattle.keep_all.specs.Cells.{room_of, is_free}
@@ -27,10 +27,10 @@ clear_more xs i h e =
 
 free_room : (x : Cell) → is_free x ≡ true → room_of x ≡ free
 free_room Free e = refl
-free_room (Taken l r n) e = clash (sym e)
+free_room (Taken l r n) e = cc
 
 taken_room : (x : Cell) → is_free x ≡ false → is_taken (room_of x) ≡ true
-taken_room Free e = clash e
+taken_room Free e = cc
 taken_room (Taken l r n) e = refl
 
 -- no cell is free
