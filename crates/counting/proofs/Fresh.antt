@@ -1,9 +1,8 @@
 -- One more free place, until all are. Assumes nothing.
-use Rattle.std.proofs.Common.{◌≡◌, ℕ, zero, suc, ◌+◌, ◌<◌, min, true, List, [], ◌∷◌, ◌++◌, map, length, get_or, take, set, Some, None, Option, sym, refl, ap, ◌∙◌, subst, inl, inr, arith}
+use Rattle.std.proofs.Common.{◌≡◌, ℕ, zero, suc, ◌+◌, ◌<◌, true, List, [], ◌∷◌, ◌++◌, map, length, get_or, take, set, Some, None, Option, sym, refl, ap, ◌∙◌, subst, arith}
 use lib.ListN.{length-map}
-use Rattle.std.proofs.lemmas.List.{take_more_set, map_push, replicate_more, take_all, length-take-le, length-append, get_or_at, set_at}
-use Rattle.std.proofs.lemmas.Bool.{cases_lt}
-use Rattle.heap.specs.Model.{free, all_free, room_at, is_taken}
+use Rattle.std.proofs.lemmas.List.{take_more_set, map_push, replicate_more, length-take-le, length-append, get_or_at, set_at}
+use Rattle.heap.specs.Model.{free, all_free, room_at}
 use Rattle.heap.specs.Counts.{count}
 use Rattle.heap.proofs.RoomAt.{all_free_lem}
 use Rattle.heap.proofs.Counted.{count_none}
@@ -57,8 +56,8 @@ fresh_rooms xs i h w e =
 
 free_cell : (x : Cell) → room_of x ≡ free → (named_of x ≡ 0) × (quiet x ≡ true)
 free_cell (Free n) e = (refl, refl)
-free_cell (Taken x) e = cc (ap is_taken e)
-free_cell (Dying l r n) e = cc (ap is_taken e)
+free_cell (Taken x) e = cc
+free_cell (Dying l r n) e = cc
 
 pub fresh_sound : (xs : List Cell) (n h : ℕ) → rooms xs ≡ all_free n → Linked (map next_free xs) h → Sound xs h
 fresh_sound xs n h e l =

@@ -6,7 +6,7 @@ use Rattle.std.proofs.lemmas.Bool.{cases_eq}
 use Rattle.std.specs.List.{slice_get}
 use Rattle.std.specs.Option.{unwrap_or, option_map}
 use Rattle.std.proofs.lemmas.Option.{unwrap_or-slice_get, slice_get-map}
-use Rattle.std.proofs.lemmas.List.{get_or-set_same, get_or-set_other, get_or-map, get_or-take, get_or_read, length-map, map-set}
+use Rattle.std.proofs.lemmas.List.{get_or-set_same, get_or-set_other, get_or-map, length-map, map-set}
 use Rattle.heap.specs.declared.types.Address.{Address}
 use Rattle.heap.specs.declared.types.Value.{Value}
 use Rattle.heap.specs.declared.types.Value.TheVariants.{At}
@@ -16,15 +16,11 @@ use Rattle.heap.proofs.Counted.{names_self, names_other, count_set}
 use Rattle.counting.specs.declared.cell.Cell.{Cell}
 use Rattle.counting.specs.declared.cell.Cell.TheVariants.{Free, Taken, Dying}
 use Rattle.counting.specs.Chain.{Linked}
-use Rattle.counting.specs.declared.store.Store.{Store}
 use Rattle.counting.specs.Laws.{cell_room}
 use Rattle.counting.specs.Cells.{cell_at, room_of, rooms, named_of, next_free, next_dying}
 use Rattle.counting.proofs.Chains.{push, pop}
 
 -- the first n cells of a list
-pub first_within : (n : ℕ) (xs : List Cell) (i : ℕ) → i < length (take n xs) → (i < n) × (i < length xs)
-first_within n xs i h = let e = length-take n xs in (omega arith, omega arith)
-
 pub first_few : (n : ℕ) (xs : List Cell) → length (take n xs) ≤ n
 first_few n xs = let e = length-take n xs in omega arith
 

@@ -1,18 +1,16 @@
 -- What the rule leaves is what every order of freeing leaves. Assumes nothing.
-use Rattle.std.specs.Prelude.{◌≡◌, ℕ, zero, suc, ◌<◌, ◌≤◌, Bool, true, false, cond, ◌⊎◌, List, [], ◌∷◌, ◌++◌, length, ◌≢◌, nat_eq, nat_lt, slice_set, refl}
-use Rattle.std.proofs.Common.{sym, ap, ◌∙◌, subst, inl, inr, arith, length-set}
+use Rattle.std.specs.Prelude.{◌≡◌, ℕ, zero, suc, ◌<◌, ◌≤◌, Bool, true, false, ◌⊎◌, List, [], ◌∷◌, ◌++◌, length, ◌≢◌, nat_lt, slice_set, refl}
+use Rattle.std.proofs.Common.{sym, ap, ◌∙◌, inl, inr, arith, length-set}
 use Rattle.std.proofs.lemmas.Bool.Decides.{nat_tests}
 use Rattle.std.proofs.lemmas.Bool.{cases_eq, cases_Bool}
 use Rattle.std.proofs.lemmas.List.{ext_get_or}
 use Rattle.heap.specs.declared.types.Value.TheVariants.{At}
 use Rattle.heap.specs.Model.{free, taken, Model, room_at, slot_of, held_at, taken_at, is_taken, holds_of, freed}
-use Rattle.heap.specs.Reach as reach
-use Rattle.heap.specs.Reach.{Safe, Reached, among}
 use Rattle.heap.specs.Counts.{count}
 use Rattle.heap.proofs.RoomAt.{within, slot_taken, not_taken, other_room, freed_room}
-use Rattle.heap.proofs.Counted.{slot_counted, uncounted, namer}
+use Rattle.heap.proofs.Counted.{uncounted, namer}
 use Rattle.counting.specs.Laws.{Dead, dead_parts, Round, nothing, one, round}
-use Rattle.counting.specs.Rule.{dead, last_dead, dead_in_turn, counting_rule, Backed, by_hold, by_slot, Upheld, Frees, Settles, RuleSettles, OneResult}
+use Rattle.counting.specs.Rule.{dead, last_dead, dead_in_turn, Backed, by_hold, by_slot, Upheld, Frees, Settles, RuleSettles, OneResult}
 
 dead_from : (c : Model) (p : ℕ) → Dead c p → dead c p ≡ true
 dead_from c p h = let a = h.taken_here in let b = h.unheld in let u = h.unnamed in grind (arith, nat_tests)

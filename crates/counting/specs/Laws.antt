@@ -1,11 +1,10 @@
 -- Why the rule frees nothing that is reached, and why slots name taken places: what the laws of the heap cite. Assumes nothing.
-use Rattle.std.specs.Prelude.{◌≡◌, ℕ, zero, suc, ◌+◌, ◌<◌, ◌≤◌, Bool, true, false, cond, ◌⊎◌, List, [], ◌∷◌, ◌++◌, length, ◌≢◌, nat_eq, nat_lt, slice_set, refl}
+use Rattle.std.specs.Prelude.{◌≡◌, ℕ, zero, suc, ◌<◌, Bool, true, false, cond, List, [], ◌∷◌, ◌++◌, length, ◌≢◌, nat_eq, nat_lt, slice_set, refl}
 use Rattle.std.proofs.Common.{sym, ap, ◌∙◌, subst, inl, inr, arith}
 use Rattle.std.proofs.Math.ListN
 use Rattle.std.proofs.lemmas.Bool.Decides.{nat_tests}
-use Rattle.std.proofs.lemmas.Bool.{cases_eq, cases_Bool}
-use Rattle.heap.specs.declared.types.Value.TheVariants.{At}
-use Rattle.heap.specs.Model.{free, taken, Model, room_at, slot_of, held_at, taken_at, is_taken, holds_of, freed}
+use Rattle.std.proofs.lemmas.Bool.{cases_eq}
+use Rattle.heap.specs.Model.{free, Model, room_at, slot_of, held_at, taken_at, is_taken, holds_of, freed}
 use Rattle.heap.specs.Reach as reach
 use Rattle.heap.specs.Reach.{Safe, Reached, Closed, among}
 use Rattle.heap.specs.Counts.{count}

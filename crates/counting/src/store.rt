@@ -47,9 +47,9 @@ impl Store {
     fn is_held(&self, value: Value) -> bool
         ensures { result ≡ names_only (held_at (rooms (places_in self.now))) value }
     {
-        value
-            .address()
-            .is_none_or(|place| matches!(at(&self.places, place), Cell::Taken(pair) if pair.holds > 0))
+        value.address().is_none_or(
+            |place| matches!(at(&self.places, place), Cell::Taken(pair) if pair.holds > 0),
+        )
     }
 
     pub(crate) fn both_held(&self, left: Value, right: Value) -> bool
@@ -61,9 +61,7 @@ impl Store {
     pub(crate) fn is_taken(&self, value: Value) -> bool
         ensures { result ≡ names_only (taken_at (rooms (places_in self.now))) value }
     {
-        value
-            .address()
-            .is_none_or(|place| !matches!(at(&self.places, place), Cell::Free { .. }))
+        value.address().is_none_or(|place| !matches!(at(&self.places, place), Cell::Free { .. }))
     }
 
     // Frees the worklist, and what joins it meanwhile.
@@ -74,7 +72,8 @@ impl Store {
     {
         while let Cell::Dying { left, right, next } = at(&self.places, Address { at: dying }) {
             let free = self.free;
-            self.places.set(Address { at: dying }, Cell::Free { next: free });
+            self.places
+                .set(Address { at: dying }, Cell::Free { next: free });
             self.free = dying;
             dying = lower(&mut self.places, left, next);
             dying = lower(&mut self.places, right, dying);
@@ -124,7 +123,12 @@ impl Store {
         raise(&mut self.places, left);
         raise(&mut self.places, right);
         let (holds, named) = (1, 0);
-        let pair = Pair { left, right, holds, named };
+        let pair = Pair {
+            left,
+            right,
+            holds,
+            named,
+        };
         self.places.set(place, Cell::Taken(pair));
         self.free = next;
         place

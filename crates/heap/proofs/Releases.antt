@@ -1,14 +1,11 @@
 -- A list of values that is let go of from its end. Assumes nothing.
-use Rattle.std.proofs.Common.{◌≡◌, List, [], ◌∷◌, ◌++◌, reverse, Some, None, Ok, Err, Option, Result, sym, refl, ap, ◌∙◌, subst}
-use Rattle.std.proofs.lemmas.List.{reverse-append}
+use Rattle.std.proofs.Common.{◌≡◌, List, [], reverse, None, Ok, Err, Option, Result, sym, refl, ap, ◌∙◌, subst}
 use Rattle.std.specs.Result.{result_and}
-use Rattle.heap.specs.declared.types.Address.{Address}
 use Rattle.heap.specs.declared.types.Value.{Value}
-use Rattle.heap.specs.declared.types.Value.TheVariants.{Number, Nil, At}
 use Rattle.heap.specs.declared.types.HeapRefusal.{HeapRefusal}
-use Rattle.heap.specs.Model.{Model, Rule, LetsGo, answer, let_go_refusal}
+use Rattle.heap.specs.Model.{Model, Rule, answer}
 use Rattle.heap.specs.Trace.{Trace}
-use Rattle.heap.specs.Release.{let_go_leaves, first_of, released, first_refusal, releases, Releases}
+use Rattle.heap.specs.Release.{released, first_refusal, releases, Releases}
 use Rattle.heap.proofs.Traces.{releases_trace}
 
 -- an answer so far, and what may still be refused

@@ -1,5 +1,5 @@
 -- Reading and writing the rooms of a model. Assumes nothing.
-use Rattle.std.proofs.Common.{◌≡◌, ℕ, zero, suc, ◌<◌, Bool, true, false, ltb, [], ◌∷◌, length, set, Some, None, Option, sym, refl, ap, arith}
+use Rattle.std.proofs.Common.{◌≡◌, ℕ, zero, suc, ◌<◌, true, false, ltb, [], ◌∷◌, length, set, Some, None, Option, refl, arith}
 use Rattle.std.proofs.lemmas.List.{get_or-set_same, get_or-set_other}
 use Rattle.heap.specs.declared.types.Address.{Address}
 use Rattle.heap.specs.declared.types.Side.{Side}

@@ -1,11 +1,11 @@
 -- Reading and writing a heap's model. Assumes nothing.
-use Rattle.std.proofs.Common.{◌≡◌, ℕ, zero, suc, ◌+◌, ◌<◌, Bool, true, false, ◌⊎◌, [], ◌∷◌, length, take, set, sym, refl, ap, ◌∙◌, inl, inr, add-one, arith}
+use Rattle.std.proofs.Common.{◌≡◌, ℕ, zero, suc, Bool, true, ◌⊎◌, [], ◌∷◌, set, sym, refl, ap, ◌∙◌, inl, inr}
 use Rattle.heap.specs.declared.types.Address.{Address}
 use Rattle.heap.specs.declared.types.Side.{Side}
 use Rattle.heap.specs.declared.types.Side.TheVariants.{Left, Right}
 use Rattle.heap.specs.declared.types.Value.{Value}
 use Rattle.heap.specs.declared.types.Value.TheVariants.{Number, Nil, At}
-use Rattle.heap.specs.Model.{Room, free, taken, Model, all_free, room_at, is_taken, holds_of, slot_of, with_slot, with_holds, taken_at, held_at, all_taken, names_only, written}
+use Rattle.heap.specs.Model.{Room, free, taken, Model, all_free, room_at, is_taken, slot_of, with_slot, with_holds, taken_at, held_at, names_only, written}
 use Rattle.heap.specs.Reach.{Closed}
 use Rattle.heap.proofs.RoomAt.{held_room, holds_slot, holds_taken, all_free_lem}
 

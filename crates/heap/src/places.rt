@@ -45,7 +45,8 @@ impl<C: Copy> Places<C> {
         self.as_slice().get(place.at as usize).copied()
     }
 
-    // Past the last place nothing is written.
+    // Past the last place nothing is written. That the spare cells stay is said of the places before and after, so no
+    // field or model can hold it: each step of a heap that calls this says `SameSpare` again.
     pub fn set(&mut self, place: Address, cell: C)
         ensures places { places_of self.new ≡ slice_set (places_of self.old) place.at cell }
         ensures spare { SameSpare self.old self.new }

@@ -5,6 +5,7 @@ ghost use Rattle.keep_all.specs.Cells.{room_of};
 
 use heap::{Side, Value};
 
+// No `Option`: its `Some` and `None` would say less than the two words, and hosts name the type.
 #[derive(Clone, Copy)]
 pub enum Cell {
     Free,

@@ -1,4 +1,4 @@
-use Rattle.std.proofs.Common.{◌≡◌, ◌+◌, ◌<◌, map, length, take, sym, ap, ◌∙◌, subst, vec_len, arith}
+use Rattle.std.proofs.Common.{◌+◌, ◌<◌, map, length, take, sym, ap, ◌∙◌, subst, vec_len, arith}
 use Rattle.heap.specs.Model.{all_free}
 use Rattle.heap.specs.Places.{places_of}
 use Rattle.heap.proofs.Cells.{places_count, places_stay, all_places, spare_then}

@@ -1,4 +1,4 @@
-use Rattle.std.proofs.Common.{sym, ap, ◌∙◌, Some, None}
+use Rattle.std.proofs.Common.{sym, ap, ◌∙◌}
 use Rattle.counting.specs.Cells.{places_in, next_free}
 use Rattle.counting.proofs.Seen.{free_read, not_free}
 use Rattle.counting.proofs.store.Store.next_free.Goals as goal

@@ -1,6 +1,5 @@
 use Rattle.std.proofs.Common.{arith}
 use Rattle.counting.specs.Cells.{places_in}
-use Rattle.heap.proofs.Cells.{spare_then}
 use Rattle.counting.proofs.Seen.{first_few}
 use Rattle.counting.proofs.Works.{owing_none, own_small, owed_named, settled_from}
 use Rattle.counting.proofs.Puts.{put_owing, put_work, put_rooms}

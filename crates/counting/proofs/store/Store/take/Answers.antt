@@ -1,6 +1,5 @@
 use Rattle.std.proofs.Common.{refl, arith}
 use Rattle.counting.specs.Cells.{places_in}
-use Rattle.heap.proofs.Cells.{spare_then}
 use Rattle.counting.proofs.Seen.{first_few}
 use Rattle.counting.proofs.Works.{owing_none, own_small, own_take}
 use Rattle.counting.proofs.Puts.{take_once, take_twice, take_free, take_rooms}

@@ -1,10 +1,9 @@
-use Rattle.std.proofs.Common.{◌+◌, ◌-◌, ◌<◌, set, refl, ap, ◌∙◌, arith}
+use Rattle.std.proofs.Common.{◌+◌, ◌-◌, ◌<◌, set, ap, ◌∙◌, arith}
 use lib.Seq.{map-set}
 use Rattle.heap.specs.Model.{taken}
 use Rattle.counting.specs.declared.cell.Cell.TheVariants.{Dying}
 use Rattle.counting.specs.Cells.{room_of, rooms, places_in}
 use Rattle.counting.specs.Work.{with_holds}
-use Rattle.heap.proofs.Cells.{spare_then}
 use Rattle.counting.proofs.Works.{work_last, sound_holds, settled_still, settled_from}
 use Rattle.counting.proofs.store.Store.unhold.Goals as goal
 

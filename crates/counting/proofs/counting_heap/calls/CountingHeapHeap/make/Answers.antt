@@ -4,7 +4,6 @@ use Rattle.heap.specs.declared.types.HeapRefusal.TheVariants.{Full}
 use Rattle.heap.specs.Model.{names_only, held_at}
 use Rattle.heap.proofs.RoomAt.{held_named}
 use Rattle.counting.specs.Cells.{places_in, rooms, next_free}
-use Rattle.heap.proofs.Cells.{same_spare}
 use Rattle.counting.proofs.Calls.{makes_done, makes_full, some_of, none_of}
 use Rattle.counting.proofs.counting_heap.calls.CountingHeapHeap.make.Goals as goal
 

@@ -9,5 +9,5 @@ pub returns-clause-call : goal.returns-clause-call
 returns-clause-call c =
     let sees = seen (places_in c.args.self.now.store) c.args.place.at _ c.find.result c.find.ensures c.in_ok-pair.ensures.value in
     puts_done (model_of c.args.self.now) _ c.args.place c.args.side c.args.value (sym (ap is_taken sees.room)) (search rules)
-        (sym (ap (λ x. same_kind (slot_of x c.args.side) c.args.value) sees.room) ∙ search rules)
-        c.replace.ensures.cells.settles
+    (sym (ap (λ x. same_kind (slot_of x c.args.side) c.args.value) sees.room) ∙ search rules)
+    c.replace.ensures.cells.settles
