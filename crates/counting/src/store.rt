@@ -71,9 +71,8 @@ impl Store {
         ensures spare { SameSpare self.old.places self.new.places }
     {
         while let Cell::Dying { left, right, next } = at(&self.places, Address { at: dying }) {
-            let free = self.free;
-            self.places
-                .set(Address { at: dying }, Cell::Free { next: free });
+            let freed = Cell::Free { next: self.free };
+            self.places.set(Address { at: dying }, freed);
             self.free = dying;
             dying = lower(&mut self.places, left, next);
             dying = lower(&mut self.places, right, dying);

@@ -2,11 +2,11 @@
 #![tactic(auto)]
 
 mod interface;
-mod kinds;
 mod numbers;
 mod places;
 mod release;
 mod types;
+mod values;
 
 pub use interface::Heap;
 pub use places::Places;

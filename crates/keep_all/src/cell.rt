@@ -51,10 +51,9 @@ impl Cell {
     pub(crate) fn slot(self, side: Side) -> Value
         ensures { result ≡ slot_of (room_of self) side }
     {
-        match (self, side) {
-            (Cell::Free, _) => Value::Nil,
-            (Cell::Taken { left, .. }, Side::Left) => left,
-            (Cell::Taken { right, .. }, Side::Right) => right,
+        match self {
+            Cell::Free => Value::Nil,
+            Cell::Taken { left, right, .. } => side.of(left, right),
         }
     }
 

@@ -1,6 +1,6 @@
 // What a counting heap does.
 ghost use Rattle.std.specs.Prelude.{◌≡◌, min, drop, vec_len};
-ghost use Rattle.heap.specs.Model.{all_free, taken, slot_of, Makes, Holds, LetsGo, Puts};
+ghost use Rattle.heap.specs.Model.{all_free, Makes, Holds, LetsGo, Puts};
 ghost use Rattle.heap.specs.Places.{SameSpare};
 ghost use Rattle.counting.specs.Rule.{counting_rule, RuleSettles, OneResult, LeftUpheld, Drains};
 ghost use Rattle.counting.specs.Cells.{places_in};
@@ -47,15 +47,6 @@ impl CountingHeap {
     }
 }
 
-fn slot(pair: Pair, side: Side) -> Value
-    ensures { result ≡ slot_of (taken pair.left pair.right pair.holds) side }
-{
-    match side {
-        Side::Left => pair.left,
-        Side::Right => pair.right,
-    }
-}
-
 impl Heap for CountingHeap {
     ghost model = { model_of };
 
@@ -81,12 +72,9 @@ impl Heap for CountingHeap {
         ensures rest { SameSpare self.old.store.places self.new.store.places }
     {
         let pair = self.find(place).ok_or(HeapRefusal::NotTaken)?;
-        if pair.holds == 65_535 {
-            return Err(HeapRefusal::TooManyHolds);
-        }
-        let holds = pair.holds + 1;
-        let pair = Pair { holds, ..pair };
-        self.store.places.set(place, Cell::Taken(pair));
+        let holds = pair.holds.checked_add(1).ok_or(HeapRefusal::TooManyHolds)?;
+        let held = Pair { holds, ..pair };
+        self.store.places.set(place, Cell::Taken(held));
         Ok(())
     }
 
@@ -104,7 +92,7 @@ impl Heap for CountingHeap {
 
     fn look(&self, place: Address, side: Side) -> Result<Value, HeapRefusal> {
         let pair = self.find(place).ok_or(HeapRefusal::NotTaken)?;
-        Ok(slot(pair, side))
+        Ok(side.of(pair.left, pair.right))
     }
 
     fn put(&mut self, place: Address, side: Side, value: Value) -> Result<(), HeapRefusal>
@@ -115,7 +103,7 @@ impl Heap for CountingHeap {
         if !self.store.is_taken(value) {
             return Err(HeapRefusal::NotTaken);
         }
-        let old = slot(pair, side);
+        let old = side.of(pair.left, pair.right);
         if !old.same_kind(value) {
             return Err(HeapRefusal::KindChange);
         }

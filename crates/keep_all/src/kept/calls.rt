@@ -21,6 +21,7 @@ impl KeepAllHeap {
         ensures keeps { Keeps }
     {
         let mut places = Places::new(cells);
+        // `fill` was tried: over any cell it owes a clone that cannot fail, and what `fill_with` wrote the proof did not see.
         for at in 0..places.len() {
             places.set(Address { at }, Cell::Free);
         }
@@ -73,6 +74,7 @@ impl KeepAllHeap {
     }
 }
 
+// The number of the first free cell.
 fn free_index(cells: &[Cell]) -> Option<usize>
     ensures { result ≡ position is_free cells.now }
 {
@@ -110,11 +112,11 @@ impl Heap for KeepAllHeap {
         if !cell.is_taken() {
             return Err(HeapRefusal::NotTaken);
         }
-        let holds = cell.holds();
-        if holds == 65_535 {
-            return Err(HeapRefusal::TooManyHolds);
-        }
-        self.write(place, cell.with_holds(holds + 1));
+        let more = cell
+            .holds()
+            .checked_add(1)
+            .ok_or(HeapRefusal::TooManyHolds)?;
+        self.write(place, cell.with_holds(more));
         Ok(())
     }
 
@@ -123,11 +125,8 @@ impl Heap for KeepAllHeap {
         ensures spare { SameSpare self.old.places self.new.places }
     {
         let cell = self.at(place);
-        let holds = cell.holds();
-        if holds == 0 {
-            return Err(HeapRefusal::NoHold);
-        }
-        self.write(place, cell.with_holds(holds - 1));
+        let fewer = cell.holds().checked_sub(1).ok_or(HeapRefusal::NoHold)?;
+        self.write(place, cell.with_holds(fewer));
         Ok(())
     }
 

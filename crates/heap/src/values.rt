@@ -1,8 +1,20 @@
-// What kind of value stands in a slot: whole numbers on one side, nil and cells on the other.
+// The values of slots: which slot is meant, which place is named, and which kind of value it is.
 ghost use Rattle.std.specs.Prelude.{◌≡◌};
-ghost use Rattle.heap.specs.Model.{address_of, is_number, same_kind};
+ghost use Rattle.heap.specs.Model.{address_of, is_number, same_kind, slot_of, taken};
 
-use crate::types::{Address, Value};
+use crate::types::{Address, Side, Value};
+
+impl Side {
+    // The one of two slots that stands on this side.
+    pub fn of(self, left: Value, right: Value) -> Value
+        ensures { result ≡ slot_of (taken left right 0) self }
+    {
+        match self {
+            Side::Left => left,
+            Side::Right => right,
+        }
+    }
+}
 
 impl Value {
     fn is_number(self) -> bool
