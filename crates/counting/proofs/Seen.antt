@@ -6,7 +6,7 @@ use Rattle.std.proofs.lemmas.Bool.{cases_eq}
 use Rattle.std.specs.List.{slice_get}
 use Rattle.std.specs.Option.{unwrap_or, option_map}
 use Rattle.std.proofs.lemmas.Option.{unwrap_or-slice_get, slice_get-map}
-use Rattle.std.proofs.lemmas.List.{get_or-set_same, get_or-set_other, get_or-map, length-map, map-set}
+use Rattle.std.proofs.lemmas.List.{get_or-set_same, get_or-set_other, get_or-map, get_or-take, get_or_read, length-map, map-set}
 use Rattle.heap.specs.declared.types.Address.{Address}
 use Rattle.heap.specs.declared.types.Value.{Value}
 use Rattle.heap.specs.declared.types.Value.TheVariants.{At}
@@ -21,14 +21,23 @@ use Rattle.counting.specs.Cells.{cell_at, room_of, rooms, named_of, next_free, n
 use Rattle.counting.proofs.Chains.{push, pop}
 
 -- the first n cells of a list
+pub first_within : (n : ℕ) (xs : List Cell) (i : ℕ) → i < length (take n xs) → (i < n) × (i < length xs)
+first_within n xs i h = let e = length-take n xs in (omega arith, omega arith)
+
 pub first_few : (n : ℕ) (xs : List Cell) → length (take n xs) ≤ n
 first_few n xs = let e = length-take n xs in omega arith
+
+pub first_read : (n : ℕ) (xs : List Cell) (i : ℕ) (x : Cell) → i < length (take n xs) → x ≡ slice_index_or xs i x → x ≡ cell_at (take n xs) i
+first_read n xs i x h e = let w = first_within n xs i h in get_or_read xs i x w.1 e (Free 0) ∙ sym (get_or-take n xs i (Free 0) w.0)
 
 -- a cell
 pub inside : (xs : List Cell) (p : ℕ) → is_taken (room_of (cell_at xs p)) ≡ true → p < length xs
 inside [] p e = cc
 inside (x ∷ xs) zero e = omega arith
 inside (x ∷ xs) (suc p) e = let h = inside xs p e in omega arith
+
+pub cell_within : (xs : List Cell) (p : ℕ) {x : Cell} → x ≡ cell_at xs p → is_taken (room_of x) ≡ true → p < length xs
+cell_within xs p e t = inside xs p (ap (λ x. is_taken (room_of x)) (sym e) ∙ t)
 
 pub dying_at : (xs : List Cell) (p : ℕ) → slice_index_or (map next_dying xs) p None ≡ next_dying (cell_at xs p)
 dying_at xs p = ListN.get_or-map next_dying xs p (Free 0)

@@ -1,8 +1,8 @@
 -- The steps of a call on the cells. Assumes nothing.
-use Rattle.std.specs.Prelude.{◌≡◌, ℕ, suc, ◌+◌, ◌-◌, ◌<◌, ◌≤◌, Bool, true, false, cond, List, [], ◌∷◌, map, length, set, Some, None, nat_lt, slice_index_or, slice_set, refl}
+use Rattle.std.specs.Prelude.{◌≡◌, ℕ, suc, ◌+◌, ◌-◌, ◌<◌, ◌≤◌, Bool, true, false, cond, List, [], ◌∷◌, map, length, set, Some, None, ◌≢◌, nat_lt, slice_index_or, slice_set, refl}
 use Rattle.std.proofs.Common.{sym, ap, ◌∙◌, subst, arith}
 use Rattle.std.proofs.lemmas.Bool.Decides.{nat_tests}
-use Rattle.std.proofs.lemmas.List.{length-map, map-set}
+use Rattle.std.proofs.lemmas.List.{set-get_or, length-map, map-set}
 use Rattle.heap.specs.declared.types.Address.{Address}
 use Rattle.heap.specs.declared.types.Side.{Side}
 use Rattle.heap.specs.declared.types.Side.TheVariants.{Left, Right}
@@ -168,6 +168,29 @@ work_dropped {c} {d = d} {n = n} {l = l} {r = r} w is e = subst (λ zs. Working 
 
 pub work_lowered : {c : Model} {xs ys : List Cell} {f d e : ℕ} {v : Value} {os : List Value} → Working c xs f d (v ∷ os) → ys ≡ lowered v d xs → e ≡ lowered_head v d xs → Working c ys f e os
 work_lowered {c} {xs} {f = f} {d = d} {e = e} {v = v} {os = os} w i j = subst (λ zs. Working c zs f e os) (sym i) (subst (λ h. Working c (lowered v d xs) f h os) (sym j) (work_lower v w))
+
+-- a cell that is not taken is left as it is
+abbrev pub NotTaken : Cell → Type 0
+NotTaken x = (y : Pair) → x ≢ Taken y
+
+slot_other : (x : Cell) (s : Side) (v : Value) → NotTaken x → with_slot_of x s v ≡ x
+slot_other (Free n) s v h = refl
+slot_other (Taken x) s v h = absurd (h x refl)
+slot_other (Dying l r n) s v h = refl
+
+raise_other : (x : Cell) → NotTaken x → raise_cell x ≡ x
+raise_other (Free n) h = refl
+raise_other (Taken x) h = absurd (h x refl)
+raise_other (Dying l r n) h = refl
+
+pub left_alone : (g : Cell → Cell) (xs : List Cell) (p : ℕ) (x : Cell) → x ≡ cell_at xs p → g x ≡ x → xs ≡ slice_set xs p (g (cell_at xs p))
+left_alone g xs p x e same = sym (ap (set xs p) (ap g (sym e) ∙ same ∙ e) ∙ set-get_or xs p (Free 0))
+
+pub slot_left : (xs : List Cell) (p : ℕ) (x : Cell) (s : Side) (v : Value) → NotTaken x → x ≡ cell_at xs p → xs ≡ slice_set xs p (with_slot_of (cell_at xs p) s v)
+slot_left xs p x s v h e = left_alone (λ y. with_slot_of y s v) xs p x e (slot_other x s v h)
+
+pub raise_left : (xs : List Cell) (v : Value) (q : Address) (x : Cell) → v ≡ At q → NotTaken x → x ≡ cell_at xs q.at → xs ≡ raised v xs
+raise_left xs v q x i h e = left_alone raise_cell xs q.at x e (raise_other x h) ∙ sym (ap (λ u. raised u xs) i)
 
 -- sound cells, and what is owed while slots change
 pub owing_none : (xs : List Cell) (f : ℕ) → Sound xs f → Owing xs f []

@@ -10,7 +10,10 @@ pub copied_item : {X : Type 0} (xs : List X) (i : ℕ) (r : Option (Bor X)) → 
 copied_item xs i None h = sym (slice_get_past xs i h.3)
 copied_item xs i (Some x) h = sym (slice_get_read xs _ i x.now refl h.3.0 h.1)
 
--- what two calls leave as it was
+-- what no call and what two calls leave as it was
+pub same_spare : {C : Type 0} {p : Places C} → SameSpare p p
+same_spare = record { spare = refl; count = refl }
+
 pub spare_then : {C : Type 0} {p q r : Places C} → SameSpare p q → SameSpare q r → SameSpare p r
 spare_then a b = record { spare = b.spare ∙ a.spare; count = b.count ∙ a.count }
 
