@@ -121,12 +121,11 @@ impl Store {
         let place = Address { at: self.free };
         raise(&mut self.places, left);
         raise(&mut self.places, right);
-        let (holds, named) = (1, 0);
         let pair = Pair {
             left,
             right,
-            holds,
-            named,
+            holds: 1,
+            named: 0,
         };
         self.places.set(place, Cell::Taken(pair));
         self.free = next;

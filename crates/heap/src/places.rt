@@ -26,6 +26,7 @@ impl<C: Copy> Places<C> {
         cells
     }
 
+    // The cells of the places.
     pub fn as_slice(&self) -> &[C]
         ensures { result.now ≡ places_of self.now }
     {

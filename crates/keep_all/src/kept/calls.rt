@@ -99,8 +99,12 @@ impl Heap for KeepAllHeap {
             return Err(HeapRefusal::NoHold);
         }
         let place = self.first_free().ok_or(HeapRefusal::Full)?;
-        let holds = 1;
-        self.write(place, Cell::Taken { left, right, holds });
+        let cell = Cell::Taken {
+            left,
+            right,
+            holds: 1,
+        };
+        self.write(place, cell);
         Ok(place)
     }
 
