@@ -31,6 +31,7 @@ pub enum Cell {
 }
 
 impl Cell {
+    // Each heap has a `new` of its own cell: a trait for both would add a name and share no code.
     pub fn new() -> Cell
         ensures { result ≡ Cell.Free 0 }
     {

@@ -27,6 +27,7 @@ impl Store {
     {
         let mut places = Places::new(cells);
         let mut free = 0;
+        // Each place is linked to the one before it, so the loop is over numbers.
         for at in 0..places.len() {
             places.set(Address { at }, Cell::Free { next: free });
             free = at;

@@ -46,8 +46,8 @@ impl<C: Copy> Places<C> {
         self.as_slice().get(place.at as usize).copied()
     }
 
-    // Past the last place nothing is written. That the spare cells stay is said of the places before and after, so no
-    // field or model can hold it: each step of a heap that calls this says `SameSpare` again.
+    // Past the last place nothing is written.
+    // `SameSpare` is a fact about two states, which no field or model can hold: each step over this says it again.
     pub fn set(&mut self, place: Address, cell: C)
         ensures places { places_of self.new ≡ slice_set (places_of self.old) place.at cell }
         ensures spare { SameSpare self.old self.new }

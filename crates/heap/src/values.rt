@@ -6,6 +6,7 @@ use crate::types::{Address, Side, Value};
 
 impl Side {
     // The one of two slots that stands on this side.
+    // Left and right stay two values: `make` is given them apart, and a cell holds them beside its other fields.
     pub fn of(self, left: Value, right: Value) -> Value
         ensures { result ≡ slot_of (taken left right 0) self }
     {

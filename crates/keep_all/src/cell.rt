@@ -57,6 +57,7 @@ impl Cell {
         }
     }
 
+    // The match is that of counting's `set_slot` over another cell: they share its two words and no more.
     pub(crate) fn with_slot(self, side: Side, value: Value) -> Cell
         ensures { room_of result ≡ with_slot (room_of self) side value }
     {
