@@ -1,6 +1,6 @@
-// The spelling of keywords and marks, and the number of a trouble.
+// The spelling of keywords and marks, and the number and the words of a trouble.
 ghost use Rattle.std.specs.Prelude.{◌≡◌};
-ghost use Rattle.tokens.specs.Spelling.{keyword_text, mark_text, trouble_number};
+ghost use Rattle.tokens.specs.Spelling.{keyword_text, mark_text, trouble_number, trouble_words};
 
 use crate::types::{Keyword, Mark, Trouble};
 
@@ -61,6 +61,16 @@ impl Trouble {
         match self {
             Trouble::NoToken | Trouble::OpenComment => 2,
             Trouble::LargeConstant => 3,
+        }
+    }
+
+    pub fn words(self) -> &'static str
+        ensures { result.now ≡ trouble_words self }
+    {
+        match self {
+            Trouble::NoToken => "no token begins with this byte",
+            Trouble::OpenComment => "this comment is never closed",
+            Trouble::LargeConstant => "this constant is above 9223372036854775807",
         }
     }
 }
