@@ -2,9 +2,7 @@
 use Rattle.std.specs.Prelude.{ℕ, suc, ◌+◌, ◌-◌, ◌^◌, min, cond, List, [], ◌∷◌, ◌++◌, length, take, drop, Some, None, codes, decimal, Option, nat_lt}
 use Rattle.std.specs.Char.{is_ascii_digit}
 use Rattle.position.specs.Lines.{breaks, since_break}
-use Rattle.tokens.specs.declared.types.Trouble.{Trouble}
-use Rattle.tokens.specs.declared.types.Trouble.TheVariants.{NoToken, OpenComment, LargeConstant}
-use Rattle.tokens.specs.Spelling.{Symbol, name, constant, keyword, mark, end, trouble, Item, keyword_text, mark_text, trouble_number}
+use Rattle.tokens.specs.Spelling.{Symbol, name, constant, keyword, mark, end, trouble, Item, keyword_text, mark_text, trouble_number, trouble_words}
 use Rattle.tokens.specs.Scan.{run}
 use Rattle.lexemes.specs.declared.refusal.Reason.{Reason}
 use Rattle.lexemes.specs.declared.refusal.Reason.TheVariants.{LongSource, ManyTokens, Trouble as ByTrouble}
@@ -13,11 +11,6 @@ abbrev pub reason_number : Reason → ℕ
 reason_number LongSource = 1
 reason_number ManyTokens = 6
 reason_number (ByTrouble t) = trouble_number t
-
-abbrev pub trouble_words : Trouble → List ℕ
-trouble_words NoToken = codes "no token begins with this byte"
-trouble_words OpenComment = codes "this comment is never closed"
-trouble_words LargeConstant = codes "this constant is above 9223372036854775807"
 
 abbrev pub reason_words : Reason → List ℕ
 reason_words LongSource = codes "a script has at most 8,192 bytes"

@@ -1,20 +1,10 @@
 // Why a script is refused, and the line that says so.
 ghost use Rattle.std.specs.Prelude.{◌≡◌, IfOk, string_bytes};
-ghost use Rattle.lexemes.specs.Listing.{trouble_words, reason_number, reason_words, refusal_text, refusal_line};
+ghost use Rattle.lexemes.specs.Listing.{reason_number, reason_words, refusal_text, refusal_line};
 
 use position::{Position, position_of};
 use std::alloc::{AllocError, Global};
 use tokens::Trouble;
-
-fn words_of(trouble: Trouble) -> &'static str
-    ensures { result.now ≡ trouble_words trouble }
-{
-    match trouble {
-        Trouble::NoToken => "no token begins with this byte",
-        Trouble::OpenComment => "this comment is never closed",
-        Trouble::LargeConstant => "this constant is above 9223372036854775807",
-    }
-}
 
 #[derive(Clone, Copy)]
 pub enum Reason {
@@ -40,7 +30,7 @@ impl Reason {
         match self {
             Reason::LongSource => "a script has at most 8,192 bytes",
             Reason::ManyTokens => "this is token 2,049, and a script has at most 2,048",
-            Reason::Trouble(trouble) => words_of(trouble),
+            Reason::Trouble(trouble) => trouble.words(),
         }
     }
 }
