@@ -1,8 +1,8 @@
 // Why a script is refused, and the line that says so.
-ghost use Rattle.std.specs.Prelude.{◌≡◌, IfOk, string_bytes};
-ghost use Rattle.lexemes.specs.Listing.{reason_number, reason_words, refusal_text, refusal_line};
+ghost use Rattle.std.specs.Prelude.{◌≡◌, IfOk, Some, string_bytes};
+ghost use Rattle.lexemes.specs.Listing.{reason_number, reason_words, reason_line};
 
-use position::{Position, position_of};
+use refusal_line::refusal_line;
 use std::alloc::{AllocError, Global};
 use tokens::Trouble;
 
@@ -33,32 +33,11 @@ impl Reason {
             Reason::Trouble(trouble) => trouble.words(),
         }
     }
-}
 
-fn refusal_text(
-    heap: Global,
-    position: Position,
-    number: u8,
-    at: usize,
-    words: &str,
-) -> Result<String, AllocError>
-    ensures { IfOk result (λ s. string_bytes s ≡ refusal_text position.line position.column number at words.now) }
-{
-    let line = position.line;
-    let column = position.column;
-    format!(in heap; "{line}:{column}: refused with {number} at offset {at}: {words}\n")
-}
-
-// The line that refuses the source at an offset.
-pub fn refusal_line(
-    heap: Global,
-    source: &[u8],
-    reason: Reason,
-    at: usize,
-) -> Result<String, AllocError>
-    ensures { IfOk result (λ s. string_bytes s ≡ refusal_line source.now reason at) }
-{
-    let position = position_of(source, at);
-    let line = refusal_text(heap, position, reason.number(), at, reason.words())?;
-    Ok(line)
+    // The line that refuses the source at an offset.
+    pub fn line(self, heap: Global, source: &[u8], at: usize) -> Result<String, AllocError>
+        ensures { IfOk result (λ s. string_bytes s ≡ reason_line source.now self at) }
+    {
+        refusal_line(heap, source, self.number(), at, self.words())
+    }
 }
