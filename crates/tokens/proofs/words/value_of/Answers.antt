@@ -12,13 +12,6 @@ returns-then-next-gt-LARGEST c =
     let grown = reading_grows (c.loop-d.value * 10 + (get_or ds i 0 - 48)) (drop (i + 1) ds) in
     sym (value_large ds (omega (arith, on, grown)))
 
-pub loop-d-preserved : goal.loop-d-preserved
-loop-d-preserved c =
-    let ds = c.args.digits.now in
-    let i = c.loop-d.d-index in
-    let next : c.loop-d.value * 10 + (get_or ds i 0 - 48) ≡ c.from.result * 10 + c.from-in-loop-d.result = omega arith in
-    (omega arith, c.loop-d.invariant.1 ∙ reading_on c.loop-d.value ds i c.loop-d-test.true ∙ ap (λ n. reading_from n (drop (i + 1) ds)) next)
-
 pub returns : goal.returns
 returns c =
     let ds = c.args.digits.now in
