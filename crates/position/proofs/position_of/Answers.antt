@@ -1,7 +1,7 @@
 use Rattle.std.proofs.Common.{◌+◌, min, take, refl, ap, ◌∙◌, arith}
-use Rattle.std.proofs.lemmas.List.{take_all}
+use Rattle.std.proofs.lemmas.List.{take_all, take_min}
 use Rattle.position.specs.Lines.{breaks, since_break}
-use Rattle.position.proofs.Counting.{line_more, column_more, take_up_to}
+use Rattle.position.proofs.Counting.{line_more, column_more}
 use Rattle.position.proofs.position_of.Goals as goal
 use Rattle.position.proofs.position_of.Goals.{then-b-eq10, else-b-eq10}
 
@@ -21,7 +21,7 @@ loop-b-preserved c =
 pub returns : goal.returns
 returns c =
     let s = take c.min-end.result c.args.source.now in
-    let whole = take_all c.loop-b.b-index s c.loop-b-test.false ∙ take_up_to c.args.offset c.min-end.result c.args.source.now c.min-end.ensures in
+    let whole = take_all c.loop-b.b-index s c.loop-b-test.false ∙ ap (λ k. take k c.args.source.now) c.min-end.ensures ∙ take_min c.args.offset c.args.source.now in
     record {
       line = c.saturating_add.ensures ∙ ap (λ n. min (n + 1) 18446744073709551615) (c.loop-b.invariant.2 ∙ ap breaks whole);
       column = c.saturating_add-2.ensures ∙ ap (λ n. min (n + 1) 18446744073709551615) (c.loop-b.invariant.3 ∙ ap (since_break 0) whole);
