@@ -1,6 +1,6 @@
 -- The items of a source, computed. Assumes nothing.
-use Rattle.std.specs.Prelude.{◌≡◌, ℕ, ◌≤◌, slice_index, zero, suc, ◌+◌, Bool, true, false, cond, ◌&&◌, List, [], ◌∷◌, length, take, drop, Some, None, Option, ◌==◌, nat_le}
-use Rattle.std.specs.List.{find, prefix_len}
+use Rattle.std.specs.Prelude.{◌≡◌, ℕ, ◌≤◌, slice_index, zero, suc, ◌+◌, Bool, true, false, cond, ◌&&◌, List, [], ◌∷◌, length, drop, Some, None, Option, ◌==◌, nat_le}
+use Rattle.std.specs.List.{find, take_while}
 use Rattle.std.specs.Str.{bytes_eq}
 use Rattle.byte_class.specs.Classes.{class_of, digit}
 use Rattle.byte_class.specs.declared.Class.{Class}
@@ -12,6 +12,10 @@ use Rattle.tokens.specs.declared.types.Mark.TheVariants.{LeftParen, RightParen, 
 use Rattle.tokens.specs.declared.types.Trouble.TheVariants.{NoToken, OpenComment, LargeConstant}
 use Rattle.tokens.specs.Spelling.{Symbol, name, constant, keyword, mark, end, trouble, Item, item, keyword_text, wordy, reading}
 use Rattle.tokens.specs.Lexing.{largest}
+
+-- calls that may answer so of a byte answer as the test does
+abbrev pub Answers : (ℕ → Bool → Type 0) → (ℕ → Bool) → Type 0
+Answers gives p = (b : ℕ) (r : Bool) → gives b r → r ≡ p b
 
 -- the byte stands first
 abbrev pub starts : ℕ → List ℕ → Bool
@@ -86,8 +90,8 @@ two x n bs = cond (starts x bs) (found 2 (mark n)) (stop (trouble NoToken))
 
 -- what begins with a byte of the class, by that byte and the text after it
 abbrev pub front_by : Class → ℕ → List ℕ → Front
-front_by class.Letter b bs = word (b ∷ take (prefix_len wordy bs) bs)
-front_by class.Digit b bs = number (b ∷ take (prefix_len digit bs) bs)
+front_by class.Letter b bs = word (b ∷ take_while wordy bs)
+front_by class.Digit b bs = number (b ∷ take_while digit bs)
 front_by class.Blank b bs = gap 1
 front_by class.LeftParen b bs = one LeftParen
 front_by class.RightParen b bs = one RightParen

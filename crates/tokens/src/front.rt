@@ -1,7 +1,7 @@
 // What stands first in a text.
-ghost use Rattle.std.specs.Prelude.{◌≡◌, ℕ, Bool, [], ◌∷◌, take, MatchOption};
-ghost use Rattle.std.specs.List.{prefix_len};
-ghost use Rattle.tokens.specs.Scan.{starts, word, number, comment, one, one_or_two, two, front_by};
+ghost use Rattle.std.specs.Prelude.{◌≡◌, ℕ, Bool, [], ◌∷◌, MatchOption};
+ghost use Rattle.std.specs.List.{take_while};
+ghost use Rattle.tokens.specs.Scan.{Answers, starts, word, number, comment, one, one_or_two, two, front_by};
 ghost use Rattle.tokens.specs.State.{front_of};
 
 use crate::begun::Begun;
@@ -56,7 +56,7 @@ impl<'a> Begun<'a> {
     // The first byte and those after it that pass the test.
     fn run<F: Fn(u8) -> bool>(&self, test: F) -> &'a [u8]
         requires { F.IsAlwaysCallable test }
-        ensures { (p : ℕ → Bool) → ((b : ℕ) (r : Bool) → F.post test b r → r ≡ p b) → result.now ≡ self.now.first ∷ take (prefix_len p self.now.after.now) self.now.after.now }
+        ensures { (p : ℕ → Bool) → Answers (F.post test) p → result.now ≡ self.now.first ∷ take_while p self.now.after.now }
     {
         let more = self.after.iter().take_while(|b| test(**b)).count();
         &self.text[..1 + more]

@@ -23,10 +23,7 @@ impl Token<'_> {
     pub fn is_mark(self, mark: Mark) -> bool
         ensures { IsTrue result ↔ (symbol_of self.entry ≡ sign mark) }
     {
-        match self {
-            Token::Mark(found) => found == mark,
-            _ => false,
-        }
+        matches!(self, Token::Mark(found) if found == mark)
     }
 }
 
