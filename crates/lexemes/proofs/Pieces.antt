@@ -1,10 +1,9 @@
 -- How a listing grows. Assumes nothing.
 use Rattle.std.proofs.Common.{◌≡◌, ℕ, suc, ◌+◌, ◌<◌, ◌≤◌, List, [], ◌∷◌, ◌++◌, map, length, get_or, take, sym, ap, ◌∙◌, append_assoc, append-nil, add-zero, add-suc, suc-add, zero-add, arith}
 use Rattle.std.proofs.lemmas.List.{length-map, length-take-le, map_more}
-use Rattle.std.proofs.lemmas.Bool.{le-ltb, cond-false}
 use Rattle.tokens.specs.declared.types.Placed.{Placed}
 use Rattle.tokens.specs.Spelling.{Item, symbol_of, item_of}
-use Rattle.lexemes.specs.Listing.{reason_at, line_by, lines_from, listing_of}
+use Rattle.lexemes.specs.Listing.{reason_at, line_by, lines_from}
 
 lines_push : (source : List ℕ) (n : ℕ) (xs : List Item) (x : Item) → lines_from source n (xs ++ x ∷ []) ≡ lines_from source n xs ++ line_by source x (reason_at (n + length xs) x.symbol)
 unfolding lines_from
@@ -25,6 +24,3 @@ lines_more source ps i d t u h so_far line =
     ∙ ap (λ l. l ++ line_by source x (reason_at i x.symbol)) so_far
     ∙ ap (λ k. lines_from source 0 (map item_of (take i ps)) ++ line_by source x (reason_at k x.symbol)) (sym before)
     ∙ sym (ap (lines_from source 0) (map_more item_of ps i d h) ∙ lines_push source 0 (map item_of (take i ps)) x)
-
-pub short_listing : (source : List ℕ) (items : List Item) → length source ≤ 8192 → lines_from source 0 (take 2049 items) ≡ listing_of source items
-short_listing source items h = sym (cond-false _ _ _ (le-ltb 8192 (length source) h))
