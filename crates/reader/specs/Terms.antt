@@ -1,10 +1,9 @@
 -- What the readers of expressions and conditions give one another. A gas is enough here where it is at least the number of tokens left. Assumes nothing.
-use Rattle.std.specs.Prelude.{◌≡◌, ℕ, suc, ◌+◌, ◌-◌, ◌*◌, ◌<◌, ◌≤◌, Bool, true, false, cond, List, [], ◌∷◌, ◌++◌, length, Some, None, Ok, Err, vec_items, vec_len, vec_capacity, Option, Result, ◌==◌}
+use Rattle.std.specs.Prelude.{◌≡◌, ℕ, suc, ◌+◌, ◌-◌, ◌*◌, ◌<◌, ◌≤◌, Bool, true, false, List, [], ◌∷◌, ◌++◌, length, Some, None, Ok, Err, vec_items, vec_len, vec_capacity, Option, Result}
 use Rattle.std.specs.List.{insert}
 use Rattle.script.specs.declared.types.«Type».{«Type» as Ty}
 use Rattle.script.specs.declared.types.Comparison.{Comparison}
 use Rattle.script.specs.declared.types.Node.{Node}
-use Rattle.script.specs.declared.types.Node.TheVariants as node
 use Rattle.script.specs.Tree.{Expr, Cond}
 use Rattle.script.specs.Flat.{flat, flat_cond}
 use Rattle.grammar.specs.Tokens.{Tok, first}
@@ -46,10 +45,6 @@ pub record Inserted (i : ℕ) (n : Node) (o p : Code) : Type 0 where
   pub cap : vec_capacity o.nodes ≤ vec_capacity p.nodes
   pub functions : p.functions ≡ o.functions
   pub formals : p.formals ≡ o.formals
-
--- the node of a chain of conditions
-abbrev pub join_node : ℕ → ℕ → Node
-join_node n skip = cond (n == 1) (node.And skip) (node.Or skip)
 
 -- the code of what was read, and which it is
 abbrev pub flat_thing : Either → List Node
