@@ -55,20 +55,14 @@ impl<'a> Cursor<'a> {
         ensures value { result ≡ is (sign mark) (kind_at (left self.now)) }
         ensures token { result ≡ true → 1 < kind_at (left self.now) }
     {
-        match self.here.token {
-            Token::Mark(m) => m == mark,
-            _ => false,
-        }
+        matches!(self.here.token, Token::Mark(here) if here == mark)
     }
 
     pub(crate) fn at_keyword(&self, keyword: Keyword) -> bool
         ensures value { result ≡ is (word keyword) (kind_at (left self.now)) }
         ensures token { result ≡ true → 1 < kind_at (left self.now) }
     {
-        match self.here.token {
-            Token::Keyword(k) => k == keyword,
-            _ => false,
-        }
+        matches!(self.here.token, Token::Keyword(here) if here == keyword)
     }
 
     // The value of the constant at hand, if it is one.

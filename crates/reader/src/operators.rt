@@ -1,15 +1,15 @@
-// Which operator, comparison or type the token at hand is.
+// Which operator or comparison the token at hand is.
 ghost use Rattle.std.specs.Prelude.{◌≡◌, ◌<◌, true};
 ghost use Rattle.grammar.specs.Combine.{kind_at};
 ghost use Rattle.grammar.specs.Parse.{joining, joins};
 ghost use Rattle.reader.specs.Cursor.{left};
 ghost use Rattle.reader.specs.Binding.{join_rank, IsBinary, IsOperator};
-ghost use Rattle.reader.specs.Terms.{IsType, IsComparison};
+ghost use Rattle.reader.specs.Terms.{IsComparison};
 
 use crate::binding::{Binding, Join};
 use crate::cursor::Cursor;
-use script::{Comparison, Operator, Type};
-use tokens::{Keyword, Mark, Token};
+use script::{Comparison, Operator};
+use tokens::{Mark, Token};
 
 impl<'a> Cursor<'a> {
     // The binary operator at hand, and how tightly it binds.
@@ -63,23 +63,6 @@ impl<'a> Cursor<'a> {
             Token::Mark(Mark::Less) => Some(Comparison::Less),
             Token::Mark(Mark::Greater) => Some(Comparison::Greater),
             _ => None,
-        }
-    }
-
-    // The type at hand, if it is one.
-    pub(crate) fn ty(&self) -> Option<Type>
-        ensures { IsType (left self.now) result }
-    {
-        if self.at_keyword(Keyword::Int) {
-            return Some(Type::Int);
-        }
-        if self.at_keyword(Keyword::Ref) {
-            return Some(Type::Ref);
-        }
-        if self.at_keyword(Keyword::Q) {
-            Some(Type::Q)
-        } else {
-            None
         }
     }
 }

@@ -3,8 +3,8 @@ ghost use Rattle.std.specs.Prelude.{suc, ◌<◌, ◌≤◌, true, vec_len};
 ghost use Rattle.script.specs.Flat.{flat, flat_cond};
 ghost use Rattle.grammar.specs.Parse.{expression, condition, actuals, named, operand, negation};
 ghost use Rattle.reader.specs.Binding.{rank, join_rank};
-ghost use Rattle.reader.specs.Reading.{Ready, Reads, ReadsActuals};
-ghost use Rattle.reader.specs.Terms.{Deeper, Spare, Goes, Gives, Follows, Compares, operands, levels, chained, inside, bracketed, conditions, joining_on, flat_got, got_is, flat_found, found_is};
+ghost use Rattle.reader.specs.Reading.{Spare, Reads, ReadsActuals};
+ghost use Rattle.reader.specs.Terms.{Deeper, Goes, Gives, Follows, Compares, operands, levels, chained, inside, bracketed, conditions, joining_on, flat_got, got_is, flat_found, found_is};
 
 use crate::binding::{Binding, Join};
 use crate::code::{Code, Thing};
@@ -27,7 +27,7 @@ impl Code {
         cursor: &mut Cursor,
         depth: usize,
     ) -> Result<(), ReadRefusal>
-        requires { Ready 0 cursor.old self.old }
+        requires { Spare 0 cursor.old self.old }
         ensures { Reads (λ g. expression g depth) flat cursor.old cursor.new self.old self.new result }
     {
         self.level(cursor, depth, false, Some(Binding::Dot))?;
@@ -36,7 +36,7 @@ impl Code {
 
     // A condition.
     pub(crate) fn condition(&mut self, cursor: &mut Cursor, depth: usize) -> Result<(), ReadRefusal>
-        requires { Ready 0 cursor.old self.old }
+        requires { Spare 0 cursor.old self.old }
         ensures { Reads (λ g. condition true g depth) flat_cond cursor.old cursor.new self.old self.new result }
     {
         self.conditions(cursor, depth, true, Some(Join::Or))?;
@@ -50,7 +50,7 @@ impl Code {
         cursor: &mut Cursor,
         depth: usize,
     ) -> Result<usize, ReadRefusal>
-        requires { Ready 0 cursor.old self.old }
+        requires { Spare 0 cursor.old self.old }
         ensures { ReadsActuals (λ g. actuals depth g (expression g (suc depth))) cursor.old cursor.new self.old self.new result }
     {
         if cursor.at_mark(Mark::RightParen) {
@@ -97,7 +97,7 @@ impl Code {
         depth: usize,
         merged: bool,
     ) -> Result<Thing, ReadRefusal>
-        requires { Ready 0 cursor.old self.old }
+        requires { Spare 0 cursor.old self.old }
         ensures { Gives 0 (λ g. inside merged (suc g) depth) (flat_got merged) (got_is merged) cursor.old cursor.new self.old self.new result }
     {
         if merged {
@@ -115,11 +115,11 @@ impl Code {
         merged: bool,
         at: usize,
     ) -> Result<Thing, ReadRefusal>
-        requires ready { Ready 0 cursor.old self.old }
+        requires ready { Spare 0 cursor.old self.old }
         requires deep { depth ≤ 64 }
         ensures { Gives 0 (λ g. bracketed merged depth (operand (suc g) (suc depth)) (inside merged (suc g) (suc depth)) at) (flat_got merged) (got_is merged) cursor.old cursor.new self.old self.new result }
     {
-        if let Some(to) = cursor.ty() {
+        if let Some(to) = cursor.type_here() {
             cursor.take(depth)?;
             cursor.expect(Mark::RightParen, depth)?;
             self.push(Node::Begin { at });
@@ -139,7 +139,7 @@ impl Code {
         depth: usize,
         merged: bool,
     ) -> Result<Thing, ReadRefusal>
-        requires { Ready 0 cursor.old self.old }
+        requires { Spare 0 cursor.old self.old }
         ensures { Gives 0 (λ g. operands merged g depth) (flat_got merged) (got_is merged) cursor.old cursor.new self.old self.new result }
     {
         let at = cursor.here.at;
@@ -181,7 +181,7 @@ impl Code {
         merged: bool,
         binding: Option<Binding>,
     ) -> Result<Thing, ReadRefusal>
-        requires { Ready 0 cursor.old self.old }
+        requires { Spare 0 cursor.old self.old }
         ensures { Gives 0 (λ g. levels merged (rank binding) g depth) (flat_got merged) (got_is merged) cursor.old cursor.new self.old self.new result }
     {
         let Some(binding) = binding else {
@@ -208,7 +208,7 @@ impl Code {
         start: usize,
         from: usize,
     ) -> Result<(), ReadRefusal>
-        requires ready { Ready 0 cursor.old self.old }
+        requires ready { Spare 0 cursor.old self.old }
         requires within { from ≤ vec_len self.old.nodes }
         ensures { Follows (λ g. chained depth (rank (Some binding)) start g g) flat from cursor.old cursor.new self.old self.new result }
     {
@@ -234,7 +234,7 @@ impl Code {
         depth: usize,
         must: bool,
     ) -> Result<Thing, ReadRefusal>
-        requires { Ready 0 cursor.old self.old }
+        requires { Spare 0 cursor.old self.old }
         ensures { Gives 0 (λ g. negation must (suc g) depth) (flat_found must) (found_is must) cursor.old cursor.new self.old self.new result }
     {
         let at = cursor.here.at;
@@ -261,7 +261,7 @@ impl Code {
         must: bool,
         from: usize,
     ) -> Result<Thing, ReadRefusal>
-        requires ready { Ready 0 cursor.old self.old }
+        requires ready { Spare 0 cursor.old self.old }
         requires within { from ≤ vec_len self.old.nodes }
         ensures { Compares must depth from cursor.old cursor.new self.old self.new result }
     {
@@ -289,7 +289,7 @@ impl Code {
         must: bool,
         join: Option<Join>,
     ) -> Result<Thing, ReadRefusal>
-        requires { Ready 0 cursor.old self.old }
+        requires { Spare 0 cursor.old self.old }
         ensures { Gives 0 (λ g. conditions must (join_rank join) g depth) (flat_found must) (found_is must) cursor.old cursor.new self.old self.new result }
     {
         let Some(join) = join else {
@@ -314,7 +314,7 @@ impl Code {
         join: Join,
         from: usize,
     ) -> Result<(), ReadRefusal>
-        requires ready { Ready 0 cursor.old self.old }
+        requires ready { Spare 0 cursor.old self.old }
         requires within { from ≤ vec_len self.old.nodes }
         ensures { Follows (λ g. joining_on depth (join_rank (Some join)) g g) flat_cond from cursor.old cursor.new self.old self.new result }
     {
