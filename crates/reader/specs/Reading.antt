@@ -6,12 +6,12 @@ use Rattle.script.specs.declared.types.Name.{Name}
 use Rattle.script.specs.Tree.{Exprs, count}
 use Rattle.script.specs.Flat.{flats}
 use Rattle.tokens.specs.declared.types.Mark.{Mark}
-use Rattle.tokens.specs.Spelling.{item_of, mark}
+use Rattle.tokens.specs.Spelling.{item_of, mark, trouble_number}
 use Rattle.grammar.specs.Tokens.{Tok, offset, first}
 use Rattle.grammar.specs.Combine.{Why, why_bad, why_deep, why_many, out_done, out_fail, Parser, kind_at, is}
 use Rattle.grammar.specs.Parse.{number_of, is_constant, is_name, is_type, name_of, value_of, type_of}
 use Rattle.reader.specs.declared.refusal.Reason.{Reason}
-use Rattle.reader.specs.declared.refusal.Reason.TheVariants.{TooLong, NoToken, OpenComment, LargeConstant, Wrong, TooDeep, TooMany}
+use Rattle.reader.specs.declared.refusal.Reason.TheVariants.{TooLong, Trouble, Wrong, TooDeep, TooMany}
 use Rattle.reader.specs.declared.refusal.ReadRefusal.{ReadRefusal}
 use Rattle.reader.specs.declared.cursor.Cursor.{Cursor}
 use Rattle.reader.specs.declared.code.Code.{Code}
@@ -20,9 +20,7 @@ use Rattle.reader.specs.Cursor.{left, after}
 -- the number of a refusal
 abbrev pub reason_number : Reason → ℕ
 reason_number TooLong = 1
-reason_number NoToken = 2
-reason_number OpenComment = 2
-reason_number LargeConstant = 3
+reason_number (Trouble t) = trouble_number t
 reason_number Wrong = 4
 reason_number TooDeep = 5
 reason_number TooMany = 6
