@@ -34,7 +34,7 @@ module _ (d at n m : ℕ) {c c1 c2 : Cursor} {o o1 o2 : Code} (a : Tested d at c
         tree = tree.if_then at a.tree r.tree;
         is = (leaves _ _ _ _ to_else h).is;
         code = then_code (vec_items o.nodes) (flat_cond a.tree) (flat_body r.tree) at n a.code r.code begins (m - n) long w.items;
-        moved = record { on = omega arith; few = j.few; fall = omega arith; spent = omega arith; grown = omega arith; cap = omega arith; functions = w.functions ∙ j.functions ∙ i.functions; formals = w.formals ∙ j.formals ∙ i.formals };
+        moved = record { on = omega arith; fall = omega arith; spent = omega arith; grown = omega arith; cap = omega arith; functions = w.functions ∙ j.functions ∙ i.functions; formals = w.formals ∙ j.formals ∙ i.formals };
       }
 
   pub chose_else : {c3 c4 : Cursor} {o3 o4 p : Code} (k l : ℕ) → is (keyword word.Else) (kind_at (left c2)) ≡ true → Passed d c2 c3 → Inserted n (node.Then (m - n + 1)) o2 o3 → k ≡ vec_len o3.nodes → Went 1 (λ g. statement g (suc d)) flat_body c3 c4 o3 o4 → l ≡ vec_len o4.nodes → Inserted k (node.Else (l - k)) o4 p → Went 2 (λ g. tests d (condition true g (suc d)) (statement g (suc d)) (otherwise d at (statement g (suc d)))) flat_stmt c c4 o p
@@ -51,7 +51,6 @@ module _ (d at n m : ℕ) {c c1 c2 : Cursor} {o o1 o2 : Code} (a : Tested d at c
             (rest_long (vec_items o3.nodes) (flat_body s.tree) k l s.code (x ∙ o3.nodes.ok.0) (y ∙ o4.nodes.ok.0)) z.items;
         moved = record {
           on = omega arith;
-          few = f.few;
           fall = omega arith;
           spent = omega arith;
           grown = omega arith;
@@ -72,5 +71,5 @@ module _ (d at n m : ℕ) {c c1 c2 : Cursor} {o o1 o2 : Code} (a : Tested d at c
         tree = tree.while at a.tree r.tree;
         is = (goes_on _ _ (a.is (λ g. statement g (suc d)) (λ g x y. ret (tree.while at x y))) {i = c2} r.tree r.is r.moved.fall).is;
         code = loop_code (vec_items o.nodes) (flat_cond a.tree) (flat_body r.tree) at n a.code r.code begins (m - n + 1) (l - k) (ap (λ z. z + 1) long) w.items back z.items;
-        moved = record { on = omega arith; few = j.few; fall = omega arith; spent = omega arith; grown = omega arith; cap = omega arith; functions = z.functions ∙ w.functions ∙ j.functions ∙ i.functions; formals = z.formals ∙ w.formals ∙ j.formals ∙ i.formals };
+        moved = record { on = omega arith; fall = omega arith; spent = omega arith; grown = omega arith; cap = omega arith; functions = z.functions ∙ w.functions ∙ j.functions ∙ i.functions; formals = z.formals ∙ w.formals ∙ j.formals ∙ i.formals };
       }

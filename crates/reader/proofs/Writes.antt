@@ -27,7 +27,7 @@ module _ {X Y : Type 0} {k : ℕ} {f h : ℕ → Parser X} {c e : Cursor} (code_
           tree = a.tree;
           is = λ g lt. l.is g lt ∙ a.is (g - k) (omega (arith, l.fall));
           code = a.code;
-          moved = record { on = omega arith; few = m.few; fall = omega (arith, l.fall); spent = omega arith; grown = m.grown; cap = m.cap; functions = m.functions; formals = m.formals };
+          moved = record { on = omega arith; fall = omega (arith, l.fall); spent = omega arith; grown = m.grown; cap = m.cap; functions = m.functions; formals = m.formals };
           some = omega arith;
         };
         shorter = omega arith;
@@ -41,7 +41,7 @@ module _ {X Y : Type 0} {k : ℕ} {f h : ℕ → Parser X} {c e : Cursor} (code_
         tree = a.tree;
         is = λ g lt. l.is g lt ∙ a.is (g - k) (omega (arith, l.fall));
         code = a.code;
-        moved = record { on = omega arith; few = m.few; fall = omega (arith, l.fall); spent = omega arith; grown = m.grown; cap = m.cap; functions = m.functions; formals = m.formals };
+        moved = record { on = omega arith; fall = omega (arith, l.fall); spent = omega arith; grown = m.grown; cap = m.cap; functions = m.functions; formals = m.formals };
       }
   goes_further (Err b) w a = hands_on l a
 

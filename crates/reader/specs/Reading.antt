@@ -72,7 +72,6 @@ IsType ts (Some t) = (is_type (kind_at ts) ≡ true) × (t ≡ type_of (first ts
 -- reading went on from the cursor c and the code o to e and p: at most two nodes were written for each token that was passed, and k more
 pub record Moved (k : ℕ) (c e : Cursor) (o p : Code) : Type 0 where
   pub on : c.taken ≤ e.taken
-  pub few : e.taken ≤ 2048
   pub fall : length (left e) ≤ length (left c)
   pub spent : vec_len p.nodes + 2 * (2048 - e.taken) ≤ vec_len o.nodes + 2 * (2048 - c.taken) + k
   pub grown : vec_len o.nodes ≤ vec_len p.nodes
@@ -81,9 +80,8 @@ pub record Moved (k : ℕ) (c e : Cursor) (o p : Code) : Type 0 where
   pub formals : p.formals ≡ o.formals
 
 -- there is room for two nodes a token that may still be passed, and for k more
-pub record Spare (k : ℕ) (c : Cursor) (o : Code) : Type 0 where
-  pub few : c.taken ≤ 2048
-  pub room : vec_len o.nodes + 2 * (2048 - c.taken) + k ≤ vec_capacity o.nodes
+abbrev pub Spare : ℕ → Cursor → Code → Type 0
+Spare k c o = vec_len o.nodes + 2 * (2048 - c.taken) + k ≤ vec_capacity o.nodes
 
 -- from c to e a tree was read by f, and its code was written; g is any gas that is enough
 pub record Read {X : Type 0} (f : ℕ → Parser X) (code_of : X → List Node) (c e : Cursor) (o p : Code) : Type 0 where

@@ -122,7 +122,7 @@ block-returns t c =
       tree = tree.block c.args.at r.tree;
       is = l.is;
       code = around (vec_items c.args.self.now.nodes) (node.BeginBlock c.args.at) node.EndScope (flat_stmts r.tree) c.push.ensures.items r.code c.push-2.ensures.items;
-      moved = moved_by (and (wrote c.push.ensures) (and (moves r.moved) (and (pass w.1) (wrote c.push-2.ensures)))) c.requires.spare.few (omega arith);
+      moved = moved_by (and (wrote c.push.ensures) (and (moves r.moved) (and (pass w.1) (wrote c.push-2.ensures)))) (omega arith);
     }
 
 pub body-returns : goal.body-returns
@@ -132,7 +132,7 @@ body-returns t c =
       tree = r.tree;
       is = r.is;
       code = c.push.ensures.items ∙ ap (λ l. l ++ (node.EndScope ∷ [])) r.code ∙ append_assoc (vec_items c.args.self.now.nodes) _ _;
-      moved = moved_by (and (moves r.moved) (wrote c.push.ensures)) c.requires.few (omega arith);
+      moved = moved_by (and (moves r.moved) (wrote c.push.ensures)) (omega arith);
     }
 
 pub choice-returns-in_err-start : goal.choice-returns-in_err-start
@@ -197,7 +197,7 @@ repetition-returns t c =
 
 pub statements-loop-self-init : goal.statements-loop-self-init
 statements-loop-self-init t c =
-    listed_none c.args.depth c.args.cursor.now c.args.self.now c.requires.few
+    listed_none c.args.depth c.args.cursor.now c.args.self.now
 
 pub statements-loop-self-preserved : goal.statements-loop-self-preserved
 statements-loop-self-preserved t c =

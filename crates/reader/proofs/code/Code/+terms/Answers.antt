@@ -18,7 +18,7 @@ actuals-returns-in_err-take t c =
     rw (p.1, p.2) (list_none_stuck c.args.depth (sym c.at_mark.ensures.value ∙ c.if-at_mark.true) c.in_err-take.ensures)
 
 pub actuals-returns-then-at_mark : goal.actuals-returns-then-at_mark
-actuals-returns-then-at_mark t c = list_none c.args.depth c.requires.few (sym c.at_mark.ensures.value ∙ c.if-at_mark.true) c.in_ok-take.ensures
+actuals-returns-then-at_mark t c = list_none c.args.depth (sym c.at_mark.ensures.value ∙ c.if-at_mark.true) c.in_ok-take.ensures
 
 pub actuals-returns-in_err-level : goal.actuals-returns-in_err-level
 actuals-returns-in_err-level t c =
@@ -26,17 +26,17 @@ actuals-returns-in_err-level t c =
     rw (p.1, p.2) (list_fails c.args.depth (sym c.at_mark.ensures.value ∙ c.if-at_mark.false) (stops_in c.deeper-inner.ensures c.in_err-level.ensures))
 
 pub actuals-loop-cursor-init : goal.actuals-loop-cursor-init
-actuals-loop-cursor-init t c = start_list (suc c.args.depth) (λ g. expression g (suc c.args.depth)) 1 (went_in c.deeper-inner.ensures c.in_ok-level.ensures).moved.few
+actuals-loop-cursor-init t c = start_list (suc c.args.depth) (λ g. expression g (suc c.args.depth)) 1
 
 pub actuals-returns-in_err-take-2 : goal.actuals-returns-in_err-take-2
 actuals-returns-in_err-take-2 t c =
     let p = err_from_is_err_and c.from_residual-in_err-take-2.result c.from_residual-in_err-take-2.ensures.1 in
-    rw (p.1, p.2) (list_stuck c.args.depth c.requires.few (sym c.at_mark.ensures.value ∙ c.if-at_mark.false) (went_in c.deeper-inner.ensures c.in_ok-level.ensures) c.loop-cursor.invariant (sym c.at_mark-in-loop-cursor.ensures.value ∙ c.loop-cursor-test.true) (stuck_in c.deeper-inner.ensures c.in_err-take-2.ensures))
+    rw (p.1, p.2) (list_stuck c.args.depth (sym c.at_mark.ensures.value ∙ c.if-at_mark.false) (went_in c.deeper-inner.ensures c.in_ok-level.ensures) c.loop-cursor.invariant (sym c.at_mark-in-loop-cursor.ensures.value ∙ c.loop-cursor-test.true) (stuck_in c.deeper-inner.ensures c.in_err-take-2.ensures))
 
 pub actuals-returns-in_err-level-2 : goal.actuals-returns-in_err-level-2
 actuals-returns-in_err-level-2 t c =
     let p = err_from_is_err_and c.from_residual-in_err-level-2.result c.from_residual-in_err-level-2.ensures.1 in
-    rw (p.1, p.2) (list_broke c.args.depth c.requires.few (sym c.at_mark.ensures.value ∙ c.if-at_mark.false) (went_in c.deeper-inner.ensures c.in_ok-level.ensures) c.loop-cursor.invariant (sym c.at_mark-in-loop-cursor.ensures.value ∙ c.loop-cursor-test.true) (passed_in c.deeper-inner.ensures c.in_ok-take-2.ensures) (stops_in c.deeper-inner.ensures c.in_err-level-2.ensures))
+    rw (p.1, p.2) (list_broke c.args.depth (sym c.at_mark.ensures.value ∙ c.if-at_mark.false) (went_in c.deeper-inner.ensures c.in_ok-level.ensures) c.loop-cursor.invariant (sym c.at_mark-in-loop-cursor.ensures.value ∙ c.loop-cursor-test.true) (passed_in c.deeper-inner.ensures c.in_ok-take-2.ensures) (stops_in c.deeper-inner.ensures c.in_err-level-2.ensures))
 
 pub actuals-loop-cursor-preserved : goal.actuals-loop-cursor-preserved
 actuals-loop-cursor-preserved t c = list_turn (suc c.args.depth) (λ g. expression g (suc c.args.depth)) c.loop-cursor.invariant (sym c.at_mark-in-loop-cursor.ensures.value ∙ c.loop-cursor-test.true) (passed_in c.deeper-inner.ensures c.in_ok-take-2.ensures) (went_in c.deeper-inner.ensures c.in_ok-level-2.ensures)
@@ -44,15 +44,15 @@ actuals-loop-cursor-preserved t c = list_turn (suc c.args.depth) (λ g. expressi
 pub actuals-returns-in_err-expect : goal.actuals-returns-in_err-expect
 actuals-returns-in_err-expect t c =
     let p = err_from_is_err_and c.from_residual-in_err-expect.result c.from_residual-in_err-expect.ensures.1 in
-    rw (p.1, p.2) (list_open c.args.depth c.requires.few (sym c.at_mark.ensures.value ∙ c.if-at_mark.false) (went_in c.deeper-inner.ensures c.in_ok-level.ensures) c.loop-cursor.invariant (sym c.at_mark-in-loop-cursor.ensures.value ∙ c.loop-cursor-test.false) c.in_err-expect.ensures)
+    rw (p.1, p.2) (list_open c.args.depth (sym c.at_mark.ensures.value ∙ c.if-at_mark.false) (went_in c.deeper-inner.ensures c.in_ok-level.ensures) c.loop-cursor.invariant (sym c.at_mark-in-loop-cursor.ensures.value ∙ c.loop-cursor-test.false) c.in_err-expect.ensures)
 
 pub actuals-returns : goal.actuals-returns
-actuals-returns t c = list_done c.args.depth c.requires.few (sym c.at_mark.ensures.value ∙ c.if-at_mark.false) (went_in c.deeper-inner.ensures c.in_ok-level.ensures) c.loop-cursor.invariant (sym c.at_mark-in-loop-cursor.ensures.value ∙ c.loop-cursor-test.false) c.in_ok-expect.ensures
+actuals-returns t c = list_done c.args.depth (sym c.at_mark.ensures.value ∙ c.if-at_mark.false) (went_in c.deeper-inner.ensures c.in_ok-level.ensures) c.loop-cursor.invariant (sym c.at_mark-in-loop-cursor.ensures.value ∙ c.loop-cursor-test.false) c.in_ok-expect.ensures
 
 -- named
 
 pub named-returns-then-not-at_mark : goal.named-returns-then-not-at_mark
-named-returns-then-not-at_mark t c = named_variable c.args.depth c.args.name c.requires.few (sym c.at_mark.ensures.value ∙ c.if-not-at_mark.true) c.push.ensures
+named-returns-then-not-at_mark t c = named_variable c.args.depth c.args.name (sym c.at_mark.ensures.value ∙ c.if-not-at_mark.true) c.push.ensures
 
 pub named-returns-in_err-take : goal.named-returns-in_err-take
 named-returns-in_err-take t c =
@@ -65,7 +65,7 @@ named-returns-in_err-count t c =
     rw (p.1, p.2) (named_broke c.args.depth c.args.name (sym c.at_mark.ensures.value ∙ c.if-not-at_mark.false) c.in_ok-take.ensures c.in_err-count.ensures)
 
 pub named-returns : goal.named-returns
-named-returns t c = named_call c.args.depth c.args.name c.requires.few (sym c.at_mark.ensures.value ∙ c.if-not-at_mark.false) c.in_ok-take.ensures c.push-2.ensures c.in_ok-count.ensures c.push-3.ensures
+named-returns t c = named_call c.args.depth c.args.name (sym c.at_mark.ensures.value ∙ c.if-not-at_mark.false) c.in_ok-take.ensures c.push-2.ensures c.in_ok-count.ensures c.push-3.ensures
 
 -- inside
 
@@ -93,7 +93,7 @@ bracket-returns-in_err-operand t c =
     rw (p.1, p.2) (cast_broke c.args.merged c.args.depth c.args.at c.in-Some.ensures.0 c.in_ok-take.ensures c.in_ok-expect.ensures c.in_err-operand.ensures)
 
 pub bracket-returns-in-Some : goal.bracket-returns-in-Some
-bracket-returns-in-Some t c = cast_done c.args.merged c.args.depth c.args.at c.in-Some.ensures.0 c.requires.ready.few c.in-Some.ensures.1 c.in_ok-take.ensures c.in_ok-expect.ensures c.push.ensures c.in_ok-operand.ensures c.push-in-Some.ensures
+bracket-returns-in-Some t c = cast_done c.args.merged c.args.depth c.args.at c.in-Some.ensures.0 c.in-Some.ensures.1 c.in_ok-take.ensures c.in_ok-expect.ensures c.push.ensures c.in_ok-operand.ensures c.push-in-Some.ensures
 
 pub bracket-returns-in_err-thing : goal.bracket-returns-in_err-thing
 bracket-returns-in_err-thing t c =
@@ -106,7 +106,7 @@ bracket-returns-in_err-expect-2 t c =
     rw (p.1, p.2) (group_open c.args.merged c.args.depth c.args.at c.in_default.ensures c.in_ok-thing.ensures c.in_err-expect-2.ensures)
 
 pub bracket-returns : goal.bracket-returns
-bracket-returns t c = group_done c.args.merged c.args.depth c.args.at c.in_default.ensures c.requires.ready.few c.in_ok-thing.ensures c.in_ok-expect-2.ensures
+bracket-returns t c = group_done c.args.merged c.args.depth c.args.at c.in_default.ensures c.in_ok-thing.ensures c.in_ok-expect-2.ensures
 
 -- operand
 
@@ -116,7 +116,7 @@ operand-returns-in_err-take t c =
     rw (p.1, p.2) (constant_stuck c.args.merged c.args.depth c.in-Some.ensures.0 c.in_err-take.ensures)
 
 pub operand-returns-in-Some : goal.operand-returns-in-Some
-operand-returns-in-Some t c = constant_done c.args.merged c.args.depth c.requires.few c.in-Some.ensures c.in_ok-take.ensures c.push.ensures
+operand-returns-in-Some t c = constant_done c.args.merged c.args.depth c.in-Some.ensures c.in_ok-take.ensures c.push.ensures
 
 pub operand-returns-in_err-take-2 : goal.operand-returns-in_err-take-2
 operand-returns-in_err-take-2 t c =
@@ -129,7 +129,7 @@ operand-returns-in_err-named t c =
     rw (p.1, p.2) (name_broke c.args.merged c.args.depth c.in_default.ensures c.in-Some-name.ensures c.in_ok-take-2.ensures c.in_err-named.ensures)
 
 pub operand-returns-in-Some-name : goal.operand-returns-in-Some-name
-operand-returns-in-Some-name t c = name_done c.args.merged c.args.depth c.in_default.ensures c.requires.few c.in-Some-name.ensures c.in_ok-take-2.ensures c.in_ok-named.ensures
+operand-returns-in-Some-name t c = name_done c.args.merged c.args.depth c.in_default.ensures c.in-Some-name.ensures c.in_ok-take-2.ensures c.in_ok-named.ensures
 
 pub operand-returns-in_err-take-3 : goal.operand-returns-in_err-take-3
 operand-returns-in_err-take-3 t c =
@@ -137,7 +137,7 @@ operand-returns-in_err-take-3 t c =
     rw (p.1, p.2) (nil_stuck c.args.merged c.args.depth c.in_default.ensures c.in_default-name.ensures (sym c.at_keyword.ensures.value ∙ c.if-at_keyword.true) c.in_err-take-3.ensures)
 
 pub operand-returns-then-at_keyword : goal.operand-returns-then-at_keyword
-operand-returns-then-at_keyword t c = nil_done c.args.merged c.args.depth c.in_default.ensures c.in_default-name.ensures c.requires.few (sym c.at_keyword.ensures.value ∙ c.if-at_keyword.true) c.in_ok-take-3.ensures c.push-then-at_keyword.ensures
+operand-returns-then-at_keyword t c = nil_done c.args.merged c.args.depth c.in_default.ensures c.in_default-name.ensures (sym c.at_keyword.ensures.value ∙ c.if-at_keyword.true) c.in_ok-take-3.ensures c.push-then-at_keyword.ensures
 
 pub operand-returns-in_err-take-4 : goal.operand-returns-in_err-take-4
 operand-returns-in_err-take-4 t c =
@@ -150,7 +150,7 @@ operand-returns-in_err-operand t c =
     rw (p.1, p.2) (minus_broke c.args.merged c.args.depth c.in_default.ensures c.in_default-name.ensures (sym c.at_keyword.ensures.value ∙ c.if-at_keyword.false) (sym c.at_mark.ensures.value ∙ c.if-at_mark.true) c.in_ok-take-4.ensures c.in_err-operand.ensures)
 
 pub operand-returns-then-at_mark : goal.operand-returns-then-at_mark
-operand-returns-then-at_mark t c = minus_done c.args.merged c.args.depth c.in_default.ensures c.in_default-name.ensures (sym c.at_keyword.ensures.value ∙ c.if-at_keyword.false) c.requires.few (sym c.at_mark.ensures.value ∙ c.if-at_mark.true) c.in_ok-take-4.ensures c.push-then-at_mark.ensures c.in_ok-operand.ensures c.push-then-at_mark-2.ensures
+operand-returns-then-at_mark t c = minus_done c.args.merged c.args.depth c.in_default.ensures c.in_default-name.ensures (sym c.at_keyword.ensures.value ∙ c.if-at_keyword.false) (sym c.at_mark.ensures.value ∙ c.if-at_mark.true) c.in_ok-take-4.ensures c.push-then-at_mark.ensures c.in_ok-operand.ensures c.push-then-at_mark-2.ensures
 
 pub operand-returns-then-not-at_mark : goal.operand-returns-then-not-at_mark
 operand-returns-then-not-at_mark t c = operand_wrong c.args.merged c.args.depth c.in_default.ensures c.in_default-name.ensures (sym c.at_keyword.ensures.value ∙ c.if-at_keyword.false) (sym c.at_mark.ensures.value ∙ c.if-at_mark.false) (sym c.at_mark-2.ensures.value ∙ c.if-not-at_mark.true) c.wrong.ensures
@@ -161,7 +161,7 @@ operand-returns-in_err-take-5 t c =
     rw (p.1, p.2) (bracket_stuck c.args.merged c.args.depth c.in_default.ensures c.in_default-name.ensures (sym c.at_keyword.ensures.value ∙ c.if-at_keyword.false) (sym c.at_mark.ensures.value ∙ c.if-at_mark.false) (sym c.at_mark-2.ensures.value ∙ c.if-not-at_mark.false) c.in_err-take-5.ensures)
 
 pub operand-returns : goal.operand-returns
-operand-returns t c = bracket_done c.args.merged c.args.depth c.in_default.ensures c.in_default-name.ensures (sym c.at_keyword.ensures.value ∙ c.if-at_keyword.false) (sym c.at_mark.ensures.value ∙ c.if-at_mark.false) c.take-2.new.self c.bracket.new.cursor c.args.self.now c.bracket.new.self c.bracket.result c.requires.few (sym c.at_mark-2.ensures.value ∙ c.if-not-at_mark.false) c.in_ok-take-5.ensures c.bracket.ensures
+operand-returns t c = bracket_done c.args.merged c.args.depth c.in_default.ensures c.in_default-name.ensures (sym c.at_keyword.ensures.value ∙ c.if-at_keyword.false) (sym c.at_mark.ensures.value ∙ c.if-at_mark.false) c.take-2.new.self c.bracket.new.cursor c.args.self.now c.bracket.new.self c.bracket.result (sym c.at_mark-2.ensures.value ∙ c.if-not-at_mark.false) c.in_ok-take-5.ensures c.bracket.ensures
 
 -- level
 
@@ -182,7 +182,7 @@ pub level-returns-in-Condition : goal.level-returns-in-Condition
 level-returns-in-Condition t c = rw c.in-Some.is (level_condition c.args.merged _ c.args.depth (some_rank c.in-Some.binding) (rw c.tighter.ensures at c.in_ok-level.ensures) c.in-Condition.is)
 
 pub level-returns-in_ok-chain-in-Expression : goal.level-returns-in_ok-chain-in-Expression
-level-returns-in_ok-chain-in-Expression t c = rw c.in-Some.is (level_done c.args.merged _ c.args.depth (some_rank c.in-Some.binding) (rw c.tighter.ensures at c.in_ok-level.ensures) c.in-Expression.is c.len-from.ensures c.requires.few c.in_ok-chain-in-Expression.ensures)
+level-returns-in_ok-chain-in-Expression t c = rw c.in-Some.is (level_done c.args.merged _ c.args.depth (some_rank c.in-Some.binding) (rw c.tighter.ensures at c.in_ok-level.ensures) c.in-Expression.is c.len-from.ensures c.in_ok-chain-in-Expression.ensures)
 
 -- chain
 
@@ -215,13 +215,13 @@ compared-returns-in_err-level t c =
     rw (p.1, p.2) (compared_broke c.args.must c.args.depth c.in-Some.ensures.0 c.in_ok-take.ensures c.in_err-level.ensures)
 
 pub compared-returns-in-Some : goal.compared-returns-in-Some
-compared-returns-in-Some t c = compared_done c.args.must c.args.depth c.requires.ready.few c.in-Some.ensures.0 c.in-Some.ensures.1 c.in_ok-take.ensures c.insert.ensures c.in_ok-level.ensures c.push.ensures
+compared-returns-in-Some t c = compared_done c.args.must c.args.depth c.in-Some.ensures.0 c.in-Some.ensures.1 c.in_ok-take.ensures c.insert.ensures c.in_ok-level.ensures c.push.ensures
 
 pub compared-returns-then-must : goal.compared-returns-then-must
 compared-returns-then-must t c = compared_wrong c.args.must c.args.depth c.args.from c.if-must.true c.in_default.ensures c.wrong.ensures
 
 pub compared-returns-else-must : goal.compared-returns-else-must
-compared-returns-else-must t c = compared_none c.args.must c.args.depth c.args.from c.requires.ready.few c.if-must.false c.in_default.ensures
+compared-returns-else-must t c = compared_none c.args.must c.args.depth c.args.from c.if-must.false c.in_default.ensures
 
 -- negation
 
@@ -236,7 +236,7 @@ negation-returns-in_err-negation t c =
     rw (p.1, p.2) (not_broke c.args.must c.args.depth (sym c.at_mark.ensures.value ∙ c.if-at_mark.true) c.in_ok-take.ensures c.in_err-negation.ensures)
 
 pub negation-returns-then-at_mark : goal.negation-returns-then-at_mark
-negation-returns-then-at_mark t c = not_done c.args.must c.args.depth c.requires.few (sym c.at_mark.ensures.value ∙ c.if-at_mark.true) c.in_ok-take.ensures c.push.ensures c.in_ok-negation.ensures c.push-then-at_mark.ensures
+negation-returns-then-at_mark t c = not_done c.args.must c.args.depth (sym c.at_mark.ensures.value ∙ c.if-at_mark.true) c.in_ok-take.ensures c.push.ensures c.in_ok-negation.ensures c.push-then-at_mark.ensures
 
 pub negation-returns-in_err-level : goal.negation-returns-in_err-level
 negation-returns-in_err-level t c =
@@ -247,7 +247,7 @@ pub negation-returns-in-Condition : goal.negation-returns-in-Condition
 negation-returns-in-Condition t c = thing_condition c.args.must c.args.depth (sym c.at_mark.ensures.value ∙ c.if-at_mark.false) c.in_ok-level.ensures c.in-Condition.is
 
 pub negation-returns-in-Expression : goal.negation-returns-in-Expression
-negation-returns-in-Expression t c = thing_expression c.args.must c.args.depth (sym c.at_mark.ensures.value ∙ c.if-at_mark.false) c.in_ok-level.ensures c.compared.new.cursor c.compared.new.self c.compared.result c.requires.few c.in-Expression.is c.len-from.ensures c.compared.ensures
+negation-returns-in-Expression t c = thing_expression c.args.must c.args.depth (sym c.at_mark.ensures.value ∙ c.if-at_mark.false) c.in_ok-level.ensures c.compared.new.cursor c.compared.new.self c.compared.result c.in-Expression.is c.len-from.ensures c.compared.ensures
 
 -- conditions
 
@@ -268,7 +268,7 @@ pub conditions-returns-in-Expression : goal.conditions-returns-in-Expression
 conditions-returns-in-Expression t c = rw c.in-Some.is (conditions_expression c.args.must _ c.args.depth (some_join c.in-Some.join) (rw c.tighter.ensures at c.in_ok-conditions.ensures) c.in-Expression.is)
 
 pub conditions-returns-in_ok-joined-in-Condition : goal.conditions-returns-in_ok-joined-in-Condition
-conditions-returns-in_ok-joined-in-Condition t c = rw c.in-Some.is (conditions_done c.args.must _ c.args.depth (some_join c.in-Some.join) (rw c.tighter.ensures at c.in_ok-conditions.ensures) c.in-Condition.is c.len-from.ensures c.requires.few c.in_ok-joined-in-Condition.ensures)
+conditions-returns-in_ok-joined-in-Condition t c = rw c.in-Some.is (conditions_done c.args.must _ c.args.depth (some_join c.in-Some.join) (rw c.tighter.ensures at c.in_ok-conditions.ensures) c.in-Condition.is c.len-from.ensures c.in_ok-joined-in-Condition.ensures)
 
 -- joined
 

@@ -59,5 +59,5 @@ returns c =
       code =
           around (vec_items c.args.self.now.nodes) (node.Begin c.args.name.at) _ (flats r.tree) c.push.ensures.items r.code c.push-2.ensures.items
           ∙ ap (λ j. vec_items c.args.self.now.nodes ++ (node.Begin c.args.name.at ∷ (flats r.tree ++ (node.CallStatement c.args.name j ∷ [])))) a.number;
-      moved = moved_by (and (pass v.1) (and (wrote c.push.ensures) (and (moves r.moved) (and (pass w.1) (wrote c.push-2.ensures))))) c.requires.few (omega arith);
+      moved = moved_by (and (pass v.1) (and (wrote c.push.ensures) (and (moves r.moved) (and (pass w.1) (wrote c.push-2.ensures))))) (omega arith);
     }

@@ -32,5 +32,5 @@ returns c f law =
       tree = f r.tree;
       is = m.is;
       code = around (vec_items c.args.self.now.nodes) (Begin c.args.at) c.args.node (flat r.tree) c.push.ensures.items r.code c.push-2.ensures.items ∙ ap (λ ns. vec_items c.args.self.now.nodes ++ ns) (sym (law r.tree));
-      moved = moved_by (and (wrote c.push.ensures) (and (moves r.moved) (and (pass w.1) (wrote c.push-2.ensures)))) c.requires.few (omega arith);
+      moved = moved_by (and (wrote c.push.ensures) (and (moves r.moved) (and (pass w.1) (wrote c.push-2.ensures)))) (omega arith);
     }

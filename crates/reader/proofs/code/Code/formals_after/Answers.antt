@@ -4,10 +4,10 @@ use Rattle.reader.proofs.Commas.{parted_none, parted_more, parted_stops, parted_
 use Rattle.reader.proofs.code.Code.formals_after.Goals as goal
 
 pub returns-then-at_mark : goal.returns-then-at_mark
-returns-then-at_mark c = formals_none c.take.result c.args.cursor.now c.take.new.self c.args.self.now c.requires.few (sym c.at_mark.ensures.value ∙ c.if-at_mark.true) c.take.ensures
+returns-then-at_mark c = formals_none c.take.result c.args.cursor.now c.take.new.self c.args.self.now (sym c.at_mark.ensures.value ∙ c.if-at_mark.true) c.take.ensures
 
 pub loop-cursor-init : goal.loop-cursor-init
-loop-cursor-init c = parted_none c.args.cursor.now c.args.self.now c.requires.few
+loop-cursor-init c = parted_none c.args.cursor.now c.args.self.now
 
 pub returns-in_err-formal : goal.returns-in_err-formal
 returns-in_err-formal c =

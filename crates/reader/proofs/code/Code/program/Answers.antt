@@ -4,7 +4,7 @@ use Rattle.reader.proofs.Programs.{programmed_none, programmed_more, programmed_
 use Rattle.reader.proofs.code.Code.program.Goals as goal
 
 pub loop-self-init : goal.loop-self-init
-loop-self-init c = programmed_none c.args.cursor.now c.args.self.now c.requires.few
+loop-self-init c = programmed_none c.args.cursor.now c.args.self.now
 
 pub loop-self-preserved : goal.loop-self-preserved
 loop-self-preserved c = programmed_more c.loop-self.invariant (sym c.at_declaration.ensures ∙ c.loop-self-test.true) c.in_ok-function.ensures

@@ -35,7 +35,7 @@ returns c =
       tree = r.tree;
       is = λ s k. wants _ sign.RightParen _ (goes_on _ _ (wants _ sign.LeftParen _ (at_start (λ g. tests c.args.depth (condition true g (suc c.args.depth)) (s g) (k g)) c.args.cursor.now) v) r.tree r.is r.moved.fall) w;
       code = r.code ∙ ap (λ l. l ++ flat_cond r.tree) c.push.ensures.items ∙ append_assoc (vec_items c.args.self.now.nodes) _ _;
-      moved = moved_by path c.requires.spare.few (omega arith);
+      moved = moved_by path (omega arith);
       end = c.len.ensures;
       spent = omega (arith, path.spent);
     }

@@ -39,6 +39,5 @@ returns c =
       is = m.is (suc (length (left c.args.self.now))) (omega arith)
           ∙ (λ i. out_done (record { mutable = c.args.mutable; ty = sym c.in-Some.ensures.1 i; name = sym c.in-Some-name.ensures.1 i }) (left c.take-2.new.self));
       on = omega (arith, a.taken, b.taken);
-      few = omega (arith, b.taken, b.counted);
       fall = omega arith;
     }
