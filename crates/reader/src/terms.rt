@@ -22,6 +22,7 @@ fn deeper(depth: usize) -> usize
 
 impl Code {
     // An expression.
+    #[tactic(auto, using(crate::proofs::Operands::refused_whole, crate::proofs::Operands::read_whole))]
     pub(crate) fn expression(
         &mut self,
         cursor: &mut Cursor,
@@ -35,6 +36,7 @@ impl Code {
     }
 
     // A condition.
+    #[tactic(auto, using(crate::proofs::Operands::refused_whole, crate::proofs::Operands::read_whole))]
     pub(crate) fn condition(&mut self, cursor: &mut Cursor, depth: usize) -> Result<(), ReadRefusal>
         requires { Spare 0 cursor.old self.old }
         ensures { Reads (λ g. condition true g depth) flat_cond cursor.old cursor.new self.old self.new result }

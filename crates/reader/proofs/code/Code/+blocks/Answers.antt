@@ -1,5 +1,5 @@
 use Rattle.std.proofs.Common.{suc, [], ◌∷◌, ◌++◌, vec_items, sym, refl, ap, ◌∙◌, subst, append_assoc, add-one, arith}
-use Rattle.std.proofs.lemmas.Result.{err_from_is_err_and}
+use Rattle.reader.proofs.Exits.{exits}
 use Rattle.script.specs.declared.types.Node.TheVariants as node
 use Rattle.script.specs.Tree as tree
 use Rattle.script.specs.Flat.{flat_stmt, flat_stmts}
@@ -23,8 +23,7 @@ use Rattle.reader.proofs.code.Code.+blocks.Goals.{statement-in_default-token-via
 
 pub statement-returns-in_err-take : goal.statement-returns-in_err-take
 statement-returns-in_err-take t c =
-    let p = err_from_is_err_and c.from_residual.result c.from_residual.ensures.1 in
-    rw (p.1, p.2) (stops_name c.args.depth c.args.cursor.now c.in_err-take.ensures c.in-Some.ensures.0)
+    rw (exits c.from_residual.result c.from_residual.ensures.1) (stops_name c.args.depth c.args.cursor.now c.in_err-take.ensures c.in-Some.ensures.0)
 
 pub statement-returns-in-Some : goal.statement-returns-in-Some
 statement-returns-in-Some t c =
@@ -35,8 +34,7 @@ statement-returns-in-Some t c =
 
 pub statement-returns-in_err-take-in-Keyword-If : goal.statement-returns-in_err-take-in-Keyword-If
 statement-returns-in_err-take-in-Keyword-If t c =
-    let p = err_from_is_err_and c.from_residual-in_err-take-in-Keyword-If.result c.from_residual-in_err-take-in-Keyword-If.ensures.1 in
-    rw (p.1, p.2) (stops_if c.args.depth c.args.cursor.now c.in_err-take-in-Keyword-If.ensures (c.in-Keyword-If.is ∙ ap AKeyword (rw c.in-Keyword-If.is at c.in-Keyword-If.field-0-is)))
+    rw (exits c.from_residual-in_err-take-in-Keyword-If.result c.from_residual-in_err-take-in-Keyword-If.ensures.1) (stops_if c.args.depth c.args.cursor.now c.in_err-take-in-Keyword-If.ensures (c.in-Keyword-If.is ∙ ap AKeyword (rw c.in-Keyword-If.is at c.in-Keyword-If.field-0-is)))
 
 pub statement-returns-in_ok-take-in-Keyword-If : goal.statement-returns-in_ok-take-in-Keyword-If
 statement-returns-in_ok-take-in-Keyword-If t c =
@@ -46,8 +44,7 @@ statement-returns-in_ok-take-in-Keyword-If t c =
 
 pub statement-returns-in_err-take-in-Keyword-While : goal.statement-returns-in_err-take-in-Keyword-While
 statement-returns-in_err-take-in-Keyword-While t c =
-    let p = err_from_is_err_and c.from_residual-in_err-take-in-Keyword-While.result c.from_residual-in_err-take-in-Keyword-While.ensures.1 in
-    rw (p.1, p.2) (stops_while c.args.depth c.args.cursor.now c.in_err-take-in-Keyword-While.ensures (c.in-Keyword-While.is ∙ ap AKeyword (rw c.in-Keyword-While.is at c.in-Keyword-While.field-0-is)))
+    rw (exits c.from_residual-in_err-take-in-Keyword-While.result c.from_residual-in_err-take-in-Keyword-While.ensures.1) (stops_while c.args.depth c.args.cursor.now c.in_err-take-in-Keyword-While.ensures (c.in-Keyword-While.is ∙ ap AKeyword (rw c.in-Keyword-While.is at c.in-Keyword-While.field-0-is)))
 
 pub statement-returns-in_ok-take-in-Keyword-While : goal.statement-returns-in_ok-take-in-Keyword-While
 statement-returns-in_ok-take-in-Keyword-While t c =
@@ -57,8 +54,7 @@ statement-returns-in_ok-take-in-Keyword-While t c =
 
 pub statement-returns-in_err-take-in-Keyword-Free : goal.statement-returns-in_err-take-in-Keyword-Free
 statement-returns-in_err-take-in-Keyword-Free t c =
-    let p = err_from_is_err_and c.from_residual-in_err-take-in-Keyword-Free.result c.from_residual-in_err-take-in-Keyword-Free.ensures.1 in
-    rw (p.1, p.2) (stops_free c.args.depth c.args.cursor.now c.in_err-take-in-Keyword-Free.ensures (c.in-Keyword-Free.is ∙ ap AKeyword (rw c.in-Keyword-Free.is at c.in-Keyword-Free.field-0-is)))
+    rw (exits c.from_residual-in_err-take-in-Keyword-Free.result c.from_residual-in_err-take-in-Keyword-Free.ensures.1) (stops_free c.args.depth c.args.cursor.now c.in_err-take-in-Keyword-Free.ensures (c.in-Keyword-Free.is ∙ ap AKeyword (rw c.in-Keyword-Free.is at c.in-Keyword-Free.field-0-is)))
 
 pub statement-returns-in_ok-take-in-Keyword-Free : goal.statement-returns-in_ok-take-in-Keyword-Free
 statement-returns-in_ok-take-in-Keyword-Free t c =
@@ -68,8 +64,7 @@ statement-returns-in_ok-take-in-Keyword-Free t c =
 
 pub statement-returns-in_err-take-in-Keyword-Print : goal.statement-returns-in_err-take-in-Keyword-Print
 statement-returns-in_err-take-in-Keyword-Print t c =
-    let p = err_from_is_err_and c.from_residual-in_err-take-in-Keyword-Print.result c.from_residual-in_err-take-in-Keyword-Print.ensures.1 in
-    rw (p.1, p.2) (stops_print c.args.depth c.args.cursor.now c.in_err-take-in-Keyword-Print.ensures (c.in-Keyword-Print.is ∙ ap AKeyword (rw c.in-Keyword-Print.is at c.in-Keyword-Print.field-0-is)))
+    rw (exits c.from_residual-in_err-take-in-Keyword-Print.result c.from_residual-in_err-take-in-Keyword-Print.ensures.1) (stops_print c.args.depth c.args.cursor.now c.in_err-take-in-Keyword-Print.ensures (c.in-Keyword-Print.is ∙ ap AKeyword (rw c.in-Keyword-Print.is at c.in-Keyword-Print.field-0-is)))
 
 pub statement-returns-in_ok-take-in-Keyword-Print : goal.statement-returns-in_ok-take-in-Keyword-Print
 statement-returns-in_ok-take-in-Keyword-Print t c =
@@ -79,8 +74,7 @@ statement-returns-in_ok-take-in-Keyword-Print t c =
 
 pub statement-returns-in_err-take-in-Keyword-Return : goal.statement-returns-in_err-take-in-Keyword-Return
 statement-returns-in_err-take-in-Keyword-Return t c =
-    let p = err_from_is_err_and c.from_residual-in_err-take-in-Keyword-Return.result c.from_residual-in_err-take-in-Keyword-Return.ensures.1 in
-    rw (p.1, p.2) (stops_return c.args.depth c.args.cursor.now c.in_err-take-in-Keyword-Return.ensures (c.in-Keyword-Return.is ∙ ap AKeyword (rw c.in-Keyword-Return.is at c.in-Keyword-Return.field-0-is)))
+    rw (exits c.from_residual-in_err-take-in-Keyword-Return.result c.from_residual-in_err-take-in-Keyword-Return.ensures.1) (stops_return c.args.depth c.args.cursor.now c.in_err-take-in-Keyword-Return.ensures (c.in-Keyword-Return.is ∙ ap AKeyword (rw c.in-Keyword-Return.is at c.in-Keyword-Return.field-0-is)))
 
 pub statement-returns-in_ok-take-in-Keyword-Return : goal.statement-returns-in_ok-take-in-Keyword-Return
 statement-returns-in_ok-take-in-Keyword-Return t c =
@@ -90,8 +84,7 @@ statement-returns-in_ok-take-in-Keyword-Return t c =
 
 pub statement-returns-in_err-take-in-Mark-LeftBrace : goal.statement-returns-in_err-take-in-Mark-LeftBrace
 statement-returns-in_err-take-in-Mark-LeftBrace t c =
-    let p = err_from_is_err_and c.from_residual-in_err-take-in-Mark-LeftBrace.result c.from_residual-in_err-take-in-Mark-LeftBrace.ensures.1 in
-    rw (p.1, p.2) (stops_brace c.args.depth c.args.cursor.now c.in_err-take-in-Mark-LeftBrace.ensures (c.in-Mark-LeftBrace.is ∙ ap AMark (rw c.in-Mark-LeftBrace.is at c.in-Mark-LeftBrace.field-0-is)))
+    rw (exits c.from_residual-in_err-take-in-Mark-LeftBrace.result c.from_residual-in_err-take-in-Mark-LeftBrace.ensures.1) (stops_brace c.args.depth c.args.cursor.now c.in_err-take-in-Mark-LeftBrace.ensures (c.in-Mark-LeftBrace.is ∙ ap AMark (rw c.in-Mark-LeftBrace.is at c.in-Mark-LeftBrace.field-0-is)))
 
 pub statement-returns-in_ok-take-in-Mark-LeftBrace : goal.statement-returns-in_ok-take-in-Mark-LeftBrace
 statement-returns-in_ok-take-in-Mark-LeftBrace t c =
@@ -108,15 +101,13 @@ statement-returns-in_default-token t c =
 
 pub block-returns-in_err-statements : goal.block-returns-in_err-statements
 block-returns-in_err-statements t c =
-    let p = err_from_is_err_and c.from_residual.result c.from_residual.ensures.1 in
     let r = rw (add-one c.args.depth) at c.in_err-statements.ensures in
-    rw (p.1, p.2) (breaks _ _ (at_start (λ g. after (statements g (suc c.args.depth)) (λ x. want c.args.depth sign.RightBrace (ret (tree.block c.args.at x)))) c.args.cursor.now) r)
+    rw (exits c.from_residual.result c.from_residual.ensures.1) (breaks _ _ (at_start (λ g. after (statements g (suc c.args.depth)) (λ x. want c.args.depth sign.RightBrace (ret (tree.block c.args.at x)))) c.args.cursor.now) r)
 
 pub block-returns-in_err-expect : goal.block-returns-in_err-expect
 block-returns-in_err-expect t c =
-    let p = err_from_is_err_and c.from_residual-in_err-expect.result c.from_residual-in_err-expect.ensures.1 in
     let r = rw (add-one c.args.depth) at c.in_ok-statements.ensures in
-    rw (p.1, p.2) (unwanted _ _ _ (goes_on _ _ (at_start (λ g. after (statements g (suc c.args.depth)) (λ x. want c.args.depth sign.RightBrace (ret (tree.block c.args.at x)))) c.args.cursor.now) r.tree r.is r.moved.fall) c.in_err-expect.ensures)
+    rw (exits c.from_residual-in_err-expect.result c.from_residual-in_err-expect.ensures.1) (unwanted _ _ _ (goes_on _ _ (at_start (λ g. after (statements g (suc c.args.depth)) (λ x. want c.args.depth sign.RightBrace (ret (tree.block c.args.at x)))) c.args.cursor.now) r.tree r.is r.moved.fall) c.in_err-expect.ensures)
 
 pub block-returns : goal.block-returns
 block-returns t c =
@@ -142,15 +133,13 @@ body-returns t c =
 
 pub choice-returns-in_err-start : goal.choice-returns-in_err-start
 choice-returns-in_err-start t c =
-    let p = err_from_is_err_and c.from_residual.result c.from_residual.ensures.1 in
-    rw (p.1, p.2) (c.in_err-start.ensures (λ g. statement g (suc c.args.depth)) (λ g. otherwise c.args.depth c.args.at (statement g (suc c.args.depth))))
+    rw (exits c.from_residual.result c.from_residual.ensures.1) (c.in_err-start.ensures (λ g. statement g (suc c.args.depth)) (λ g. otherwise c.args.depth c.args.at (statement g (suc c.args.depth))))
 
 pub choice-returns-in_err-body : goal.choice-returns-in_err-body
 choice-returns-in_err-body t c =
-    let p = err_from_is_err_and c.from_residual-in_err-body.result c.from_residual-in_err-body.ensures.1 in
     let l = c.in_ok-start.ensures.is (λ g. statement g (suc c.args.depth)) (λ g. otherwise c.args.depth c.args.at (statement g (suc c.args.depth))) in
     let r = rw (add-one c.args.depth) at c.in_err-body.ensures in
-    rw (p.1, p.2) (breaks _ _ l r)
+    rw (exits c.from_residual-in_err-body.result c.from_residual-in_err-body.ensures.1) (breaks _ _ l r)
 
 pub choice-returns-then-not-at_keyword : goal.choice-returns-then-not-at_keyword
 choice-returns-then-not-at_keyword t c =
@@ -159,21 +148,19 @@ choice-returns-then-not-at_keyword t c =
 
 pub choice-returns-in_err-take : goal.choice-returns-in_err-take
 choice-returns-in_err-take t c =
-    let p = err_from_is_err_and c.from_residual-in_err-take.result c.from_residual-in_err-take.ensures.1 in
     let l = c.in_ok-start.ensures.is (λ g. statement g (suc c.args.depth)) (λ g. otherwise c.args.depth c.args.at (statement g (suc c.args.depth))) in
     let r = rw (add-one c.args.depth) at c.in_ok-body.ensures in
     let m = goes_on _ _ l r.tree r.is r.moved.fall in
-    rw (p.1, p.2) (stops _ _ _ _ m (sym c.at_keyword.ensures.value ∙ c.if-not-at_keyword.false) c.in_err-take.ensures)
+    rw (exits c.from_residual-in_err-take.result c.from_residual-in_err-take.ensures.1) (stops _ _ _ _ m (sym c.at_keyword.ensures.value ∙ c.if-not-at_keyword.false) c.in_err-take.ensures)
 
 pub choice-returns-in_err-body-2 : goal.choice-returns-in_err-body-2
 choice-returns-in_err-body-2 t c =
-    let p = err_from_is_err_and c.from_residual-in_err-body-2.result c.from_residual-in_err-body-2.ensures.1 in
     let l = c.in_ok-start.ensures.is (λ g. statement g (suc c.args.depth)) (λ g. otherwise c.args.depth c.args.at (statement g (suc c.args.depth))) in
     let r = rw (add-one c.args.depth) at c.in_ok-body.ensures in
     let m = goes_on _ _ l r.tree r.is r.moved.fall in
     let n = takes _ _ _ _ m (sym c.at_keyword.ensures.value ∙ c.if-not-at_keyword.false) c.in_ok-take.ensures in
     let s = rw (add-one c.args.depth) at c.in_err-body-2.ensures in
-    rw (p.1, p.2) (breaks _ _ n s)
+    rw (exits c.from_residual-in_err-body-2.result c.from_residual-in_err-body-2.ensures.1) (breaks _ _ n s)
 
 pub choice-returns : goal.choice-returns
 choice-returns t c =
@@ -184,15 +171,13 @@ choice-returns t c =
 
 pub repetition-returns-in_err-start : goal.repetition-returns-in_err-start
 repetition-returns-in_err-start t c =
-    let p = err_from_is_err_and c.from_residual.result c.from_residual.ensures.1 in
-    rw (p.1, p.2) (c.in_err-start.ensures (λ g. statement g (suc c.args.depth)) (λ g x y. ret (tree.while c.args.at x y)))
+    rw (exits c.from_residual.result c.from_residual.ensures.1) (c.in_err-start.ensures (λ g. statement g (suc c.args.depth)) (λ g x y. ret (tree.while c.args.at x y)))
 
 pub repetition-returns-in_err-body : goal.repetition-returns-in_err-body
 repetition-returns-in_err-body t c =
-    let p = err_from_is_err_and c.from_residual-in_err-body.result c.from_residual-in_err-body.ensures.1 in
     let l = c.in_ok-start.ensures.is (λ g. statement g (suc c.args.depth)) (λ g x y. ret (tree.while c.args.at x y)) in
     let r = rw (add-one c.args.depth) at c.in_err-body.ensures in
-    rw (p.1, p.2) (breaks _ _ l r)
+    rw (exits c.from_residual-in_err-body.result c.from_residual-in_err-body.ensures.1) (breaks _ _ l r)
 
 pub repetition-returns : goal.repetition-returns
 repetition-returns t c =
@@ -210,8 +195,7 @@ statements-loop-self-preserved t c =
 
 pub statements-returns-in_err-statement : goal.statements-returns-in_err-statement
 statements-returns-in_err-statement t c =
-    let p = err_from_is_err_and c.from_residual.result c.from_residual.ensures.1 in
-    rw (p.1, p.2) (turn_fails c.loop-self.invariant.turned (sym c.at_statement.ensures ∙ c.loop-self-test.true) c.in_err-statement.ensures)
+    rw (exits c.from_residual.result c.from_residual.ensures.1) (turn_fails c.loop-self.invariant.turned (sym c.at_statement.ensures ∙ c.loop-self-test.true) c.in_err-statement.ensures)
 
 pub statements-returns : goal.statements-returns
 statements-returns t c =

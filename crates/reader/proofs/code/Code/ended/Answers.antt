@@ -1,5 +1,5 @@
 use Rattle.std.proofs.Common.{◌++◌, vec_items, sym, ap, ◌∙◌, arith}
-use Rattle.std.proofs.lemmas.Result.{err_from_is_err_and}
+use Rattle.reader.proofs.Exits.{exits}
 use Rattle.script.specs.Flat.{flat}
 use Rattle.script.specs.declared.types.Node.TheVariants.{Begin}
 use Rattle.tokens.specs.declared.types.Mark.TheVariants as sign
@@ -11,16 +11,14 @@ use Rattle.reader.proofs.code.Code.ended.Goals as goal
 
 pub returns-in_err-expression : goal.returns-in_err-expression
 returns-in_err-expression c f law =
-    let p = err_from_is_err_and c.from_residual.result c.from_residual.ensures.1 in
-    rw (p.1, p.2)
+    rw (exits c.from_residual.result c.from_residual.ensures.1)
     (breaks _ _ (at_start (λ g. ended c.args.depth (expression g c.args.depth) f) c.args.cursor.now) c.in_err-expression.ensures)
 
 pub returns-in_err-expect : goal.returns-in_err-expect
 returns-in_err-expect c f law =
-    let p = err_from_is_err_and c.from_residual-in_err-expect.result c.from_residual-in_err-expect.ensures.1 in
     let r = c.in_ok-expression.ensures in
     let l = goes_on _ _ (at_start (λ g. ended c.args.depth (expression g c.args.depth) f) c.args.cursor.now) r.tree r.is r.moved.fall in
-    rw (p.1, p.2) (unwanted _ _ _ l c.in_err-expect.ensures)
+    rw (exits c.from_residual-in_err-expect.result c.from_residual-in_err-expect.ensures.1) (unwanted _ _ _ l c.in_err-expect.ensures)
 
 pub returns : goal.returns
 returns c f law =
