@@ -16,7 +16,8 @@ use Rattle.reader.specs.Cursor.{left}
 use Rattle.reader.specs.Reading.{Passed, NotPassed, Refused, Passes, Expects}
 use Rattle.reader.specs.Statements.{Leads}
 use Rattle.reader.specs.Functions.{Kept, Listing, OneFormal, ReadsFormals}
-use Rattle.reader.proofs.Says.{on_true, on_false, passed_one, at_start, takes, leaves, stops, goes_on, breaks, wants, unwanted}
+use Rattle.reader.proofs.Steps.{shorter, on_passed, on_other}
+use Rattle.reader.proofs.Says.{at_start, takes, leaves, stops, goes_on, breaks, wants, unwanted}
 use Rattle.reader.proofs.Turns.{together, together_more, go_none, go_more}
 
 abbrev pub cons : Declarator → List Declarator → List Declarator
@@ -75,7 +76,7 @@ pub kept_both : {c e i : Cursor} {o p q : Code} → Kept c e o p → Kept e i p 
 kept_both a b = record { on = omega arith; fall = omega arith; nodes = omega arith; formals = omega arith; functions = omega arith; grown_formals = omega arith; cap_nodes = omega arith; cap_formals = omega arith; cap_functions = omega arith }
 
 pub kept_passed : {d : ℕ} {c e i : Cursor} {o p : Code} → Kept c e o p → Passed d e i → Kept c i o p
-kept_passed a w = let n = passed_one w in record { on = omega arith; fall = omega arith; nodes = omega arith; formals = omega arith; functions = omega arith; grown_formals = omega arith; cap_nodes = omega arith; cap_formals = omega arith; cap_functions = omega arith }
+kept_passed a w = let n = shorter w in record { on = omega arith; fall = omega arith; nodes = omega arith; formals = omega arith; functions = omega arith; grown_formals = omega arith; cap_nodes = omega arith; cap_formals = omega arith; cap_functions = omega arith }
 
 pub listing_both : {c e i : Cursor} {o p q : Code} {xs ys : List Declarator} → Listing c e o p xs → Listing e i p q ys → Listing c i o q (xs ++ ys)
 listing_both {o = o} {xs = xs} {ys = ys} a b = record {
@@ -102,17 +103,17 @@ module _ {c e i : Cursor} {o p q : Code} (t : Parted c e o p) (one : OneFormal e
         let f = t.fall in
         let s : g - t.turns - 1 ≡ g - (t.turns + 1) = omega arith in
         came g lt
-        ∙ ap (λ v. go v (λ y. ret (together (λ x xs. x ∷ xs) t.list y))) (on_true 1 (is (mark sign.Comma)) (λ k. after (commas (g - t.turns - 1)) (λ xs. ret (one.formal ∷ xs))) (ret (one.formal ∷ [])) i j h w ∙ after_go _ _ _)
+        ∙ ap (λ v. go v (λ y. ret (together (λ x xs. x ∷ xs) t.list y))) (on_passed 1 i (is (mark sign.Comma)) (λ k. after (commas (g - t.turns - 1)) (λ xs. ret (one.formal ∷ xs))) (ret (one.formal ∷ [])) h w ∙ after_go _ _ _)
         ∙ go_more (λ x xs. x ∷ xs) t.list one.formal _
         ∙ ap (λ n. go (commas n (left j)) (λ y. ret (together (λ x xs. x ∷ xs) (t.list ++ (one.formal ∷ [])) y))) s;
-    fall = omega (arith, t.fall, one.shorter, passed_one w);
+    fall = omega (arith, t.fall, one.shorter, shorter w);
     listing = listing_passed (listing_both t.listing one.listing) w;
   }
 
   pub parted_all : is (mark sign.Comma) (kind_at (left i)) ≡ false → (g : ℕ) → length (left c) < g → commas g (left c) ≡ out_done (t.list ++ (one.formal ∷ [])) (left i)
   parted_all h g lt =
       came g lt
-      ∙ ap (λ v. go v (λ y. ret (together (λ x xs. x ∷ xs) t.list y))) (on_false 1 (is (mark sign.Comma)) (λ k. after (commas (g - t.turns - 1)) (λ xs. ret (one.formal ∷ xs))) (ret (one.formal ∷ [])) i h)
+      ∙ ap (λ v. go v (λ y. ret (together (λ x xs. x ∷ xs) t.list y))) (on_other 1 i (is (mark sign.Comma)) (λ k. after (commas (g - t.turns - 1)) (λ xs. ret (one.formal ∷ xs))) (ret (one.formal ∷ [])) h)
       ∙ ap (λ y. out_done y (left i)) (sym (together_more (λ x xs. x ∷ xs) t.list one.formal []) ∙ together_self _)
 
   pub parted_stops : {r : ReadRefusal} → is (mark sign.Comma) (kind_at (left i)) ≡ true → NotPassed 1 i r → Refused commas c r

@@ -13,7 +13,8 @@ use Rattle.reader.specs.Cursor.{left}
 use Rattle.reader.specs.Reading.{Passed}
 use Rattle.reader.specs.Terms.{Wrote, Inserted}
 use Rattle.reader.specs.Statements.{Leads, Went, Tested, flat_body}
-use Rattle.reader.proofs.Says.{takes, leaves, goes_on, passed_one}
+use Rattle.reader.proofs.Steps.{shorter}
+use Rattle.reader.proofs.Says.{takes, leaves, goes_on}
 use Rattle.reader.proofs.Writes.{rest_long, then_code, else_code, loop_code}
 
 module _ (d at n m : ℕ) {c c1 c2 : Cursor} {o o1 o2 : Code} (a : Tested d at c c1 o o1 n) (r : Went 1 (λ g. statement g (suc d)) flat_body c1 c2 o1 o2) (end : m ≡ vec_len o2.nodes) where
@@ -42,7 +43,7 @@ module _ (d at n m : ℕ) {c c1 c2 : Cursor} {o o1 o2 : Code} (a : Tested d at c
       let i = a.moved in
       let j = r.moved in
       let f = s.moved in
-      let e = passed_one t in
+      let e = shorter t in
       record {
         tree = tree.if_else at a.tree r.tree s.tree;
         is = (goes_on _ _ (takes _ _ _ _ to_else h t) {i = c4} s.tree s.is s.moved.fall).is;

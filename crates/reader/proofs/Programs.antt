@@ -15,7 +15,8 @@ use Rattle.reader.specs.Reading.{Passed, Refusal, Refused}
 use Rattle.reader.specs.Terms.{Wrote}
 use Rattle.reader.specs.Statements.{Leads, Declared, Went}
 use Rattle.reader.specs.Functions.{Kept, AllFormals, Written, OneFunction, WholeProgram}
-use Rattle.reader.proofs.Says.{at_start, goes_on, breaks, fails, passed_one}
+use Rattle.reader.proofs.Steps.{shorter}
+use Rattle.reader.proofs.Says.{at_start, goes_on, breaks, fails}
 use Rattle.reader.proofs.Turns.{Turned, no_turn, turn, turned_all, turn_fails}
 use Rattle.reader.proofs.Commas.{same_room, kept_both, together_self}
 
@@ -122,9 +123,9 @@ module _ (h : Declarator) {c0 c1 c2 c3 c4 c5 c6 : Cursor} {o1 o2 o3 : Code} (hea
   function_shorter =
       let k = fs.listing.kept.fall in
       let m = s.moved.fall in
-      let l1 = passed_one w1 in
-      let l2 = passed_one w2 in
-      let l3 = passed_one w3 in
+      let l1 = shorter w1 in
+      let l2 = shorter w2 in
+      let l3 = shorter w3 in
       omega arith
 
   module _ {o0 o4 p : Code} (enter : Wrote (node.Enter h) o0 o1) (leave : Wrote (node.Leave c5.here.at) o3 o4) {f : Function} (e : Entered f o4 p) where
@@ -145,9 +146,9 @@ module _ (h : Declarator) {c0 c1 c2 c3 c4 c5 c6 : Cursor} {o1 o2 o3 : Code} (hea
         let d2 = ap vec_capacity (e.formals ∙ leave.formals) in
         let n1 = ap vec_len e.nodes in
         let n2 = ap vec_capacity e.nodes in
-        let l1 = passed_one w1 in
-        let l2 = passed_one w2 in
-        let l3 = passed_one w3 in
+        let l1 = shorter w1 in
+        let l2 = shorter w2 in
+        let l3 = shorter w3 in
         let some = fs.some in
         record { on = omega arith; fall = omega arith; nodes = omega arith; formals = omega arith; functions = omega arith; grown_formals = omega arith; cap_nodes = omega arith; cap_formals = omega arith; cap_functions = omega arith }
 

@@ -10,9 +10,9 @@ use Rattle.tokens.specs.declared.types.Token.TheVariants.{Keyword as AKeyword, M
 use Rattle.grammar.specs.Combine.{kind_at, after, ret, want}
 use Rattle.grammar.specs.Parse.{expression, assignment, statement, statements, otherwise}
 use Rattle.reader.specs.Statements.{Goes}
-use Rattle.reader.proofs.Paths.{moves, and, pass, wrote, moved_by}
+use Rattle.reader.proofs.Paths.{moves, and, pass, wrote, moved_by, around}
 use Rattle.reader.proofs.Says.{at_start, takes, stops, goes_on, breaks, wants, unwanted}
-use Rattle.reader.proofs.Writes.{around, reads_on, opens_reads}
+use Rattle.reader.proofs.Writes.{reads_on, opens_reads}
 use Rattle.reader.proofs.Joins.{chose_then, chose_else, repeated}
 use Rattle.reader.proofs.Turns.{listed_none, listed_more, listed_all, turn_fails}
 use Rattle.reader.proofs.Branches.{IsOther, to_declaration, takes_name, takes_if, takes_while, takes_free, takes_print, takes_return, takes_brace, stops_name, stops_if, stops_while, stops_free, stops_print, stops_return, stops_brace}
@@ -117,7 +117,7 @@ block-returns t c =
     record {
       tree = tree.block c.args.at r.tree;
       is = l.is;
-      code = around (vec_items c.args.self.now.nodes) (node.BeginBlock c.args.at) node.EndScope (flat_stmts r.tree) c.push.ensures.items r.code c.push-2.ensures.items;
+      code = around (flat_stmts r.tree) c.push.ensures r.code c.push-2.ensures;
       moved = moved_by (and (wrote c.push.ensures) (and (moves r.moved) (and (pass w.1) (wrote c.push-2.ensures)))) (omega arith);
     }
 

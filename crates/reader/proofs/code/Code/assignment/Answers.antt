@@ -5,9 +5,9 @@ use Rattle.script.specs.Tree as tree
 use Rattle.script.specs.Flat.{flats, flat_stmt}
 use Rattle.tokens.specs.declared.types.Mark.TheVariants as sign
 use Rattle.grammar.specs.Parse.{expression, assignment}
-use Rattle.reader.proofs.Paths.{moves, and, pass, wrote, moved_by}
+use Rattle.reader.proofs.Paths.{moves, and, pass, wrote, moved_by, around}
 use Rattle.reader.proofs.Says.{at_start, takes, leaves, stops, goes_on, breaks, wants, unwanted}
-use Rattle.reader.proofs.Writes.{around, goes_further}
+use Rattle.reader.proofs.Writes.{goes_further}
 use Rattle.reader.proofs.code.Code.assignment.Goals as goal
 
 pub returns-in_err-take : goal.returns-in_err-take
@@ -53,7 +53,7 @@ returns c =
       tree = tree.calls c.args.name r.tree;
       is = k.is;
       code =
-          around (vec_items c.args.self.now.nodes) (node.Begin c.args.name.at) _ (flats r.tree) c.push.ensures.items r.code c.push-2.ensures.items
+          around (flats r.tree) c.push.ensures r.code c.push-2.ensures
           ∙ ap (λ j. vec_items c.args.self.now.nodes ++ (node.Begin c.args.name.at ∷ (flats r.tree ++ (node.CallStatement c.args.name j ∷ [])))) a.number;
       moved = moved_by (and (pass v.1) (and (wrote c.push.ensures) (and (moves r.moved) (and (pass w.1) (wrote c.push-2.ensures))))) (omega arith);
     }

@@ -1,12 +1,10 @@
 use Rattle.std.proofs.Common.{◌++◌, vec_items, sym, ap, ◌∙◌, arith}
 use Rattle.reader.proofs.Exits.{exits}
 use Rattle.script.specs.Flat.{flat}
-use Rattle.script.specs.declared.types.Node.TheVariants.{Begin}
 use Rattle.tokens.specs.declared.types.Mark.TheVariants as sign
 use Rattle.grammar.specs.Parse.{expression, ended}
-use Rattle.reader.proofs.Paths.{moves, and, pass, wrote, moved_by}
+use Rattle.reader.proofs.Paths.{moves, and, pass, wrote, moved_by, around}
 use Rattle.reader.proofs.Says.{at_start, goes_on, breaks, wants, unwanted}
-use Rattle.reader.proofs.Writes.{around}
 use Rattle.reader.proofs.code.Code.ended.Goals as goal
 
 pub returns-in_err-expression : goal.returns-in_err-expression
@@ -29,6 +27,6 @@ returns c f law =
     record {
       tree = f r.tree;
       is = m.is;
-      code = around (vec_items c.args.self.now.nodes) (Begin c.args.at) c.args.node (flat r.tree) c.push.ensures.items r.code c.push-2.ensures.items ∙ ap (λ ns. vec_items c.args.self.now.nodes ++ ns) (sym (law r.tree));
+      code = around (flat r.tree) c.push.ensures r.code c.push-2.ensures ∙ ap (λ ns. vec_items c.args.self.now.nodes ++ ns) (sym (law r.tree));
       moved = moved_by (and (wrote c.push.ensures) (and (moves r.moved) (and (pass w.1) (wrote c.push-2.ensures)))) (omega arith);
     }

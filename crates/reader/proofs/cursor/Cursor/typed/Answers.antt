@@ -3,7 +3,8 @@ use Rattle.reader.proofs.Exits.{exits}
 use Rattle.grammar.specs.Combine.{out_done}
 use Rattle.grammar.specs.Parse.{typed}
 use Rattle.reader.specs.Cursor.{left}
-use Rattle.reader.proofs.Says.{at_start, takes, leaves, stops, refuses, passed_one}
+use Rattle.reader.proofs.Steps.{shorter}
+use Rattle.reader.proofs.Says.{at_start, takes, leaves, stops, refuses}
 use Rattle.reader.proofs.cursor.Cursor.typed.Goals as goal
 
 pub returns-in_default : goal.returns-in_default
@@ -31,8 +32,8 @@ returns c =
     let b = c.in_ok-take-2.ensures in
     let l = takes _ _ _ _ (at_start (λ g. typed c.args.depth c.args.mutable) c.args.self.now) c.in-Some.ensures.0 a in
     let m = takes _ _ _ _ l c.in-Some-name.ensures.0 b in
-    let n = passed_one a in
-    let o = passed_one b in
+    let n = shorter a in
+    let o = shorter b in
     record {
       is = m.is (suc (length (left c.args.self.now))) (omega arith)
           ∙ (λ i. out_done (record { mutable = c.args.mutable; ty = sym c.in-Some.ensures.1 i; name = sym c.in-Some-name.ensures.1 i }) (left c.take-2.new.self));
