@@ -4,21 +4,17 @@ use Rattle.script.specs.Tree as tree
 use Rattle.script.specs.Tree.{Stmt}
 use Rattle.tokens.specs.declared.types.Keyword.TheVariants as word
 use Rattle.tokens.specs.declared.types.Mark.TheVariants as sign
-use Rattle.tokens.specs.declared.types.Token.{Token}
 use Rattle.tokens.specs.declared.types.Token.TheVariants.{Keyword as AKeyword, Mark as AMark}
-use Rattle.tokens.specs.Spelling.{symbol_of, item_of, keyword, mark}
-use Rattle.grammar.specs.Combine.{Parser, after, ret, on, want, kind, kind_at, is}
+use Rattle.tokens.specs.Spelling.{item_of, keyword, mark}
+use Rattle.grammar.specs.Combine.{Parser, after, ret, on, want, kind_at, is}
 use Rattle.grammar.specs.Parse.{is_name, name_of, expression, condition, ended, declaration, assignment, otherwise, tests, statement, statements}
 use Rattle.reader.specs.declared.refusal.ReadRefusal.{ReadRefusal}
 use Rattle.reader.specs.declared.cursor.Cursor.{Cursor}
 use Rattle.reader.specs.Cursor.{left}
 use Rattle.reader.specs.Reading.{Passed, NotPassed, Refused}
 use Rattle.reader.specs.Statements.{Leads}
+use Rattle.reader.proofs.Steps.{kind_of}
 use Rattle.reader.proofs.Says.{Opens, first_takes, first_leaves, first_stops}
-
--- the kind of a token of the code
-abbrev pub kind_of : Token → ℕ
-kind_of t = kind (symbol_of t)
 
 -- the kind of no token that a statement but a declaration begins with
 abbrev pub IsOther : ℕ → Type 0

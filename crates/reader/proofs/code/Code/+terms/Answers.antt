@@ -1,14 +1,18 @@
-use Rattle.std.proofs.Common.{suc, ◌-◌, sym, ap, ◌∙◌}
+use Rattle.std.proofs.Common.{rules, suc, ◌-◌, sym, ap, ◌∙◌}
 use Rattle.reader.proofs.Exits.{exits}
+use Rattle.tokens.specs.declared.types.Token.TheVariants.{Keyword, Mark}
+use Rattle.grammar.specs.Combine.{kind_at}
 use Rattle.grammar.specs.Parse.{expression}
+use Rattle.reader.specs.Cursor.{left}
 use Rattle.reader.proofs.Lists.{start_list, list_turn, list_done, list_open, list_stuck, list_broke, list_fails, list_none, list_none_stuck}
 use Rattle.reader.proofs.Deep.{passed_in, stuck_in, stops_in, went_in}
-use Rattle.reader.proofs.Operands.{named_variable, named_stuck, named_broke, named_call, inside_merged, inside_plain, cast_stuck, cast_open, cast_broke, cast_done, group_broke, group_open, group_done, constant_stuck, constant_done, name_stuck, name_broke, name_done, nil_stuck, nil_done, minus_stuck, minus_broke, minus_done, operand_wrong, bracket_stuck, bracket_done}
+use Rattle.reader.proofs.Operands.{IsNoOperand, named_variable, named_stuck, named_broke, named_call, inside_merged, inside_plain, cast_stuck, cast_open, cast_broke, cast_done, group_broke, group_open, group_done, constant_stuck, constant_done, name_stuck, name_broke, name_done, nil_stuck, nil_done, minus_stuck, minus_broke, minus_done, operand_wrong, bracket_stuck, bracket_done}
 use Rattle.reader.specs.Binding.{rank, join_rank}
 use Rattle.reader.proofs.Ranks.{some_rank, some_join}
 use Rattle.reader.proofs.Levels.{level_operand, level_fails, level_condition, level_broke, level_done, operators_done, operators_stuck, operators_broke, operators_again}
 use Rattle.reader.proofs.Conditions.{compared_stuck, compared_broke, compared_done, compared_wrong, compared_none, not_stuck, not_broke, not_done, thing_broke, thing_condition, thing_expression, conditions_one, conditions_fail, conditions_expression, conditions_broke, conditions_done, joins_done, joins_stuck, joins_broke, joins_again}
 use Rattle.reader.proofs.code.Code.+terms.Goals as goal
+use Rattle.reader.proofs.code.Code.+terms.Goals.{operand-in_default-token-via-in-Keyword+in_default, operand-in_default-token-via-in-Mark+in_default, operand-in_default-token-via-in_default}
 
 -- actuals
 
@@ -100,49 +104,51 @@ bracket-returns t c = group_done c.args.merged c.args.depth c.args.at c.in_defau
 
 pub operand-returns-in_err-take : goal.operand-returns-in_err-take
 operand-returns-in_err-take t c =
-    rw (exits c.from_residual.result c.from_residual.ensures.1) (constant_stuck c.args.merged c.args.depth c.in-Some.ensures.0 c.in_err-take.ensures)
-
-pub operand-returns-in-Some : goal.operand-returns-in-Some
-operand-returns-in-Some t c = constant_done c.args.merged c.args.depth c.in-Some.ensures c.in_ok-take.ensures c.push.ensures
-
-pub operand-returns-in_err-take-2 : goal.operand-returns-in_err-take-2
-operand-returns-in_err-take-2 t c =
-    rw (exits c.from_residual-in_err-take-2.result c.from_residual-in_err-take-2.ensures.1) (name_stuck c.args.merged c.args.depth c.in_default.ensures c.in-Some-name.ensures.0 c.in_err-take-2.ensures)
+    rw (exits c.from_residual.result c.from_residual.ensures.1) (name_stuck c.args.merged c.args.depth c.in-Some.ensures.0 c.in_err-take.ensures)
 
 pub operand-returns-in_err-named : goal.operand-returns-in_err-named
 operand-returns-in_err-named t c =
-    rw (exits c.from_residual-in_err-named.result c.from_residual-in_err-named.ensures.1) (name_broke c.args.merged c.args.depth c.in_default.ensures c.in-Some-name.ensures c.in_ok-take-2.ensures c.in_err-named.ensures)
+    rw (exits c.from_residual-in_err-named.result c.from_residual-in_err-named.ensures.1) (name_broke c.args.merged c.args.depth c.in-Some.ensures c.in_ok-take.ensures c.in_err-named.ensures)
 
-pub operand-returns-in-Some-name : goal.operand-returns-in-Some-name
-operand-returns-in-Some-name t c = name_done c.args.merged c.args.depth c.in_default.ensures c.in-Some-name.ensures c.in_ok-take-2.ensures c.in_ok-named.ensures
+pub operand-returns-in-Some : goal.operand-returns-in-Some
+operand-returns-in-Some t c = name_done c.args.merged c.args.depth c.in-Some.ensures c.in_ok-take.ensures c.in_ok-named.ensures
 
-pub operand-returns-in_err-take-3 : goal.operand-returns-in_err-take-3
-operand-returns-in_err-take-3 t c =
-    rw (exits c.from_residual-in_err-take-3.result c.from_residual-in_err-take-3.ensures.1) (nil_stuck c.args.merged c.args.depth c.in_default.ensures c.in_default-name.ensures (sym c.at_keyword.ensures.value ∙ c.if-at_keyword.true) c.in_err-take-3.ensures)
+pub operand-returns-in_err-take-in-Constant : goal.operand-returns-in_err-take-in-Constant
+operand-returns-in_err-take-in-Constant t c =
+    rw (exits c.from_residual-in_err-take-in-Constant.result c.from_residual-in_err-take-in-Constant.ensures.1) (constant_stuck c.args.merged c.args.depth c.in-Constant.is c.in_err-take-in-Constant.ensures)
 
-pub operand-returns-then-at_keyword : goal.operand-returns-then-at_keyword
-operand-returns-then-at_keyword t c = nil_done c.args.merged c.args.depth c.in_default.ensures c.in_default-name.ensures (sym c.at_keyword.ensures.value ∙ c.if-at_keyword.true) c.in_ok-take-3.ensures c.push-then-at_keyword.ensures
+pub operand-returns-in_ok-take-in-Constant : goal.operand-returns-in_ok-take-in-Constant
+operand-returns-in_ok-take-in-Constant t c = constant_done c.args.merged c.args.depth c.in-Constant.is c.in_ok-take-in-Constant.ensures c.push.ensures
 
-pub operand-returns-in_err-take-4 : goal.operand-returns-in_err-take-4
-operand-returns-in_err-take-4 t c =
-    rw (exits c.from_residual-in_err-take-4.result c.from_residual-in_err-take-4.ensures.1) (minus_stuck c.args.merged c.args.depth c.in_default.ensures c.in_default-name.ensures (sym c.at_keyword.ensures.value ∙ c.if-at_keyword.false) (sym c.at_mark.ensures.value ∙ c.if-at_mark.true) c.in_err-take-4.ensures)
+pub operand-returns-in_err-take-in-Keyword-Nil : goal.operand-returns-in_err-take-in-Keyword-Nil
+operand-returns-in_err-take-in-Keyword-Nil t c =
+    rw (exits c.from_residual-in_err-take-in-Keyword-Nil.result c.from_residual-in_err-take-in-Keyword-Nil.ensures.1) (nil_stuck c.args.merged c.args.depth (c.in-Keyword-Nil.is ∙ ap Keyword (rw c.in-Keyword-Nil.is at c.in-Keyword-Nil.field-0-is)) c.in_err-take-in-Keyword-Nil.ensures)
 
-pub operand-returns-in_err-operand : goal.operand-returns-in_err-operand
-operand-returns-in_err-operand t c =
-    rw (exits c.from_residual-in_err-operand.result c.from_residual-in_err-operand.ensures.1) (minus_broke c.args.merged c.args.depth c.in_default.ensures c.in_default-name.ensures (sym c.at_keyword.ensures.value ∙ c.if-at_keyword.false) (sym c.at_mark.ensures.value ∙ c.if-at_mark.true) c.in_ok-take-4.ensures c.in_err-operand.ensures)
+pub operand-returns-in_ok-take-in-Keyword-Nil : goal.operand-returns-in_ok-take-in-Keyword-Nil
+operand-returns-in_ok-take-in-Keyword-Nil t c = nil_done c.args.merged c.args.depth (c.in-Keyword-Nil.is ∙ ap Keyword (rw c.in-Keyword-Nil.is at c.in-Keyword-Nil.field-0-is)) c.in_ok-take-in-Keyword-Nil.ensures c.push-in-Keyword-Nil.ensures
 
-pub operand-returns-then-at_mark : goal.operand-returns-then-at_mark
-operand-returns-then-at_mark t c = minus_done c.args.merged c.args.depth c.in_default.ensures c.in_default-name.ensures (sym c.at_keyword.ensures.value ∙ c.if-at_keyword.false) (sym c.at_mark.ensures.value ∙ c.if-at_mark.true) c.in_ok-take-4.ensures c.push-then-at_mark.ensures c.in_ok-operand.ensures c.push-then-at_mark-2.ensures
+pub operand-returns-in_err-take-in-Mark-Minus : goal.operand-returns-in_err-take-in-Mark-Minus
+operand-returns-in_err-take-in-Mark-Minus t c =
+    rw (exits c.from_residual-in_err-take-in-Mark-Minus.result c.from_residual-in_err-take-in-Mark-Minus.ensures.1) (minus_stuck c.args.merged c.args.depth (c.in-Mark-Minus.is ∙ ap Mark (rw c.in-Mark-Minus.is at c.in-Mark-Minus.field-0-is)) c.in_err-take-in-Mark-Minus.ensures)
 
-pub operand-returns-then-not-at_mark : goal.operand-returns-then-not-at_mark
-operand-returns-then-not-at_mark t c = operand_wrong c.args.merged c.args.depth c.in_default.ensures c.in_default-name.ensures (sym c.at_keyword.ensures.value ∙ c.if-at_keyword.false) (sym c.at_mark.ensures.value ∙ c.if-at_mark.false) (sym c.at_mark-2.ensures.value ∙ c.if-not-at_mark.true) c.wrong.ensures
+pub operand-returns-in_err-operand-in-Mark-Minus : goal.operand-returns-in_err-operand-in-Mark-Minus
+operand-returns-in_err-operand-in-Mark-Minus t c =
+    rw (exits c.from_residual-in_err-operand-in-Mark-Minus.result c.from_residual-in_err-operand-in-Mark-Minus.ensures.1) (minus_broke c.args.merged c.args.depth (c.in-Mark-Minus.is ∙ ap Mark (rw c.in-Mark-Minus.is at c.in-Mark-Minus.field-0-is)) c.in_ok-take-in-Mark-Minus.ensures c.in_err-operand-in-Mark-Minus.ensures)
 
-pub operand-returns-in_err-take-5 : goal.operand-returns-in_err-take-5
-operand-returns-in_err-take-5 t c =
-    rw (exits c.from_residual-in_err-take-5.result c.from_residual-in_err-take-5.ensures.1) (bracket_stuck c.args.merged c.args.depth c.in_default.ensures c.in_default-name.ensures (sym c.at_keyword.ensures.value ∙ c.if-at_keyword.false) (sym c.at_mark.ensures.value ∙ c.if-at_mark.false) (sym c.at_mark-2.ensures.value ∙ c.if-not-at_mark.false) c.in_err-take-5.ensures)
+pub operand-returns-in_ok-operand-in-Mark-Minus : goal.operand-returns-in_ok-operand-in-Mark-Minus
+operand-returns-in_ok-operand-in-Mark-Minus t c = minus_done c.args.merged c.args.depth (c.in-Mark-Minus.is ∙ ap Mark (rw c.in-Mark-Minus.is at c.in-Mark-Minus.field-0-is)) c.in_ok-take-in-Mark-Minus.ensures c.push-in-Mark-Minus.ensures c.in_ok-operand-in-Mark-Minus.ensures c.push-in-Mark-Minus-2.ensures
 
-pub operand-returns : goal.operand-returns
-operand-returns t c = bracket_done c.args.merged c.args.depth c.in_default.ensures c.in_default-name.ensures (sym c.at_keyword.ensures.value ∙ c.if-at_keyword.false) (sym c.at_mark.ensures.value ∙ c.if-at_mark.false) c.take-2.new.self c.bracket.new.cursor c.args.self.now c.bracket.new.self c.bracket.result (sym c.at_mark-2.ensures.value ∙ c.if-not-at_mark.false) c.in_ok-take-5.ensures c.bracket.ensures
+pub operand-returns-in_err-take-in-Mark-LeftParen : goal.operand-returns-in_err-take-in-Mark-LeftParen
+operand-returns-in_err-take-in-Mark-LeftParen t c =
+    rw (exits c.from_residual-in_err-take-in-Mark-LeftParen.result c.from_residual-in_err-take-in-Mark-LeftParen.ensures.1) (bracket_stuck c.args.merged c.args.depth (c.in-Mark-LeftParen.is ∙ ap Mark (rw c.in-Mark-LeftParen.is at c.in-Mark-LeftParen.field-0-is)) c.in_err-take-in-Mark-LeftParen.ensures)
+
+pub operand-returns-in_ok-take-in-Mark-LeftParen : goal.operand-returns-in_ok-take-in-Mark-LeftParen
+operand-returns-in_ok-take-in-Mark-LeftParen t c = bracket_done c.args.merged c.args.depth c.take-in-Mark-LeftParen.new.self c.bracket.new.cursor c.args.self.now c.bracket.new.self c.bracket.result (c.in-Mark-LeftParen.is ∙ ap Mark (rw c.in-Mark-LeftParen.is at c.in-Mark-LeftParen.field-0-is)) c.in_ok-take-in-Mark-LeftParen.ensures c.bracket.ensures
+
+pub operand-returns-in_default-token : goal.operand-returns-in_default-token
+operand-returns-in_default-token t c =
+    let k : IsNoOperand (kind_at (left c.args.cursor.now)) = elim c.in_default-token.branch [ operand-in_default-token-via-in-Keyword+in_default w ↦ search rules | operand-in_default-token-via-in-Mark+in_default w ↦ search rules | operand-in_default-token-via-in_default w ↦ search rules ] in
+    operand_wrong c.args.merged c.args.depth c.in_default.ensures k c.wrong.ensures
 
 -- level
 
