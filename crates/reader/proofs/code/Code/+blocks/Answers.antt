@@ -1,6 +1,5 @@
-use Rattle.std.proofs.Common.{suc, [], ◌∷◌, ◌++◌, vec_items, sym, refl, ap, ◌∙◌, subst, append_assoc, add-one, arith}
+use Rattle.std.proofs.Common.{suc, sym, refl, ap, ◌∙◌, subst, add-one, arith}
 use Rattle.reader.proofs.Exits.{exits}
-use Rattle.script.specs.declared.types.Node.TheVariants as node
 use Rattle.script.specs.Tree as tree
 use Rattle.script.specs.Flat.{flat_stmt, flat_stmts}
 use Rattle.tokens.specs.declared.types.Mark.TheVariants as sign
@@ -119,16 +118,6 @@ block-returns t c =
       is = l.is;
       code = around (flat_stmts r.tree) c.push.ensures r.code c.push-2.ensures;
       moved = moved_by (and (wrote c.push.ensures) (and (moves r.moved) (and (pass w.1) (wrote c.push-2.ensures)))) (omega arith);
-    }
-
-pub body-returns : goal.body-returns
-body-returns t c =
-    let r = c.in_ok-statement.ensures.read in
-    record {
-      tree = r.tree;
-      is = r.is;
-      code = c.push.ensures.items ∙ ap (λ l. l ++ (node.EndScope ∷ [])) r.code ∙ append_assoc (vec_items c.args.self.now.nodes) _ _;
-      moved = moved_by (and (moves r.moved) (wrote c.push.ensures)) (omega arith);
     }
 
 pub choice-returns-in_err-start : goal.choice-returns-in_err-start

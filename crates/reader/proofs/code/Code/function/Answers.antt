@@ -1,4 +1,4 @@
-use Rattle.std.proofs.Common.{vec_len, ◌-◌, refl, ap, arith}
+use Rattle.std.proofs.Common.{◌-◌, refl, ap, arith}
 use Rattle.reader.proofs.Exits.{exits}
 use Rattle.tokens.specs.declared.types.Mark.TheVariants as sign
 use Rattle.grammar.specs.Parse.{function}
@@ -31,12 +31,6 @@ returns-in_err-expect-2 c =
     let f = c.in_ok-formals_after.ensures in
     let l3 = goes_on _ _ l2 f.list f.is f.listing.kept.fall in
     rw (exits c.from_residual-in_err-expect-2.result c.from_residual-in_err-expect-2.ensures.1) (unwanted _ _ _ l3 c.in_err-expect-2.ensures)
-
-pub overflow_sub-formals : goal.overflow_sub-formals
-overflow_sub-formals c =
-    let f = c.in_ok-formals_after.ensures.listing.kept.grown_formals in
-    let e = ap vec_len c.push.ensures.formals in
-    omega arith
 
 pub returns-in_err-statements : goal.returns-in_err-statements
 returns-in_err-statements c =
