@@ -19,9 +19,6 @@ impl Code {
         requires room { vec_len self.old.nodes < vec_capacity self.old.nodes }
         ensures { Inserted i node self.old self.new }
     {
-        match self.nodes.insert(i, node) {
-            Ok(()) => {}
-            Err(_) => unreachable(),
-        }
+        self.nodes.insert(i, node).unwrap();
     }
 }
