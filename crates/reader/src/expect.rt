@@ -11,17 +11,23 @@ use script::Name;
 use tokens::{Keyword, Mark, Token};
 
 impl<'a> Cursor<'a> {
+    fn refusal(&self, reason: Reason) -> ReadRefusal
+        ensures at { result.at ≡ self.now.here.at }
+        ensures reason { result.reason ≡ reason }
+    {
+        ReadRefusal {
+            at: self.here.at,
+            reason,
+        }
+    }
+
     // The token at hand cannot stand here.
     pub(crate) fn wrong(&self) -> ReadRefusal
         ensures { Refusal (left self.now) why_bad result }
     {
-        let reason = match self.here.token {
-            Token::Trouble(trouble) => Reason::Trouble(trouble),
-            _ => Reason::Wrong,
-        };
-        ReadRefusal {
-            at: self.here.at,
-            reason,
+        match self.here.token {
+            Token::Trouble(trouble) => self.refusal(Reason::Trouble(trouble)),
+            _ => self.refusal(Reason::Wrong),
         }
     }
 
@@ -31,16 +37,10 @@ impl<'a> Cursor<'a> {
         ensures { Passes depth self.old self.new result }
     {
         if depth > 64 {
-            return Err(ReadRefusal {
-                at: self.here.at,
-                reason: Reason::TooDeep,
-            });
+            return Err(self.refusal(Reason::TooDeep));
         }
         if self.taken >= 2048 {
-            return Err(ReadRefusal {
-                at: self.here.at,
-                reason: Reason::TooMany,
-            });
+            return Err(self.refusal(Reason::TooMany));
         }
         self.advance();
         Ok(())

@@ -35,7 +35,7 @@ impl<'a> Cursor<'a> {
 
     // The `&&` or `||` at hand.
     fn joining(&self) -> Option<Join>
-        ensures value { join_rank result ≡ joining (kind_at (left self.now)) }
+        ensures { join_rank result ≡ joining (kind_at (left self.now)) }
     {
         match self.here.token {
             Token::Mark(Mark::AndAnd) => Some(Join::And),
