@@ -12,15 +12,6 @@ fn type_text(ty: Type) -> &'static [u8] {
     }
 }
 
-fn spelling(source: &[u8], name: Name) -> &[u8] {
-    let from = name.at;
-    if from > source.len() || name.len > source.len() - from {
-        return b"";
-    }
-    let to = from + name.len;
-    &source[from..to]
-}
-
 #[derive(Drop)]
 struct Outline {
     text: Vec<u8>,
@@ -34,7 +25,7 @@ impl Outline {
     }
 
     fn name(&mut self, source: &[u8], name: Name) -> Result<(), AllocError> {
-        self.put(spelling(source, name))
+        self.put(name.spelling(source))
     }
 
     fn declarator(&mut self, source: &[u8], declarator: Declarator) -> Result<(), AllocError> {

@@ -25,15 +25,11 @@ fn comparison_text(comparison: Comparison) -> &'static str {
 }
 
 fn spelling(source: &[u8], name: Name) -> &str {
-    let from = name.at;
-    if from > source.len() || name.len > source.len() - from {
+    let bytes = name.spelling(source);
+    if bytes.len() < name.len {
         return "?";
     }
-    let to = from + name.len;
-    match std::str::from_utf8(&source[from..to]) {
-        Ok(text) => text,
-        Err(_) => "?",
-    }
+    std::str::from_utf8(bytes).unwrap_or("?")
 }
 
 fn statement_text(node: Node) -> &'static str {

@@ -1,4 +1,6 @@
 // What the reader writes and the checker and the run go through.
+ghost use Rattle.std.specs.Prelude.{◌≡◌};
+ghost use Rattle.script.specs.Spelling.{spelled};
 
 #[derive(Clone, Copy, Debug, PartialEq, Eq)]
 pub enum Type {
@@ -7,11 +9,21 @@ pub enum Type {
     Q,
 }
 
-// A name: the bytes of the source that spell it.
+// A name: the bytes of the source that spell it. A range and not a slice: a script owns its source, and a record cannot borrow from itself.
 #[derive(Clone, Copy, Debug, PartialEq, Eq)]
 pub struct Name {
     pub at: usize,
     pub len: usize,
+}
+
+impl Name {
+    // The bytes of the source that spell the name, as far as the source has them.
+    pub fn spelling(self, source: &[u8]) -> &[u8]
+        ensures { result.now ≡ spelled source.now self }
+    {
+        let rest = source.get(self.at..).unwrap_or(&[]);
+        rest.get(..self.len).unwrap_or(rest)
+    }
 }
 
 // What a function, a formal or a variable is declared as.
@@ -40,7 +52,8 @@ pub enum Comparison {
     Greater,
 }
 
-// An entry of a script's flat code. An offset stands for the node that begins there; a skip counts the entries that it passes.
+// An entry of a script's flat code, which is run in place: so a part of a tree is not boxed, and is found by a skip. An offset stands for the node
+// that begins there; a skip counts the entries that it passes.
 #[derive(Clone, Copy, Debug, PartialEq, Eq)]
 pub enum Node {
     Nil {
@@ -122,8 +135,8 @@ pub enum Node {
     },
 }
 
-// A function of a script: its declaration, its formals as a range of the script's formals, where its statements begin in the flat code, and
-// the offset of its closing brace.
+// A function of a script: its declaration, its formals as a range of the script's formals (a script cannot borrow from itself), where its
+// statements begin in the flat code, and the offset of its closing brace.
 #[derive(Clone, Copy, Debug, PartialEq, Eq)]
 pub struct Function {
     pub head: Declarator,

@@ -1,7 +1,7 @@
 // Names: what spells them, and what they mean.
 ghost use Rattle.std.specs.Prelude.{◌≡◌, take, drop};
 ghost use Rattle.std.specs.Str.{bytes_eq};
-ghost use Rattle.typing.specs.Names.{spelled, named, find, find_function, built_in_named, left_out, reserved, callee, look, taken};
+ghost use Rattle.typing.specs.Names.{named, find, find_function, built_in_named, left_out, reserved, callee, look, taken};
 ghost use Rattle.typing.specs.Faults.{slot_of};
 ghost use Rattle.typing.specs.View.{ctx_of};
 
@@ -23,13 +23,6 @@ pub(crate) fn part<'a, T>(s: &'a [T], at: usize, len: usize) -> &'a [T]
     &s[at..end]
 }
 
-// The bytes of a name.
-fn spelling<'a>(source: &'a [u8], x: Name) -> &'a [u8]
-    ensures { result.now ≡ spelled source.now x }
-{
-    part(source, x.at, x.len)
-}
-
 fn same(a: &[u8], b: &[u8]) -> bool
     ensures { result ≡ bytes_eq a.now b.now }
 {
@@ -39,7 +32,7 @@ fn same(a: &[u8], b: &[u8]) -> bool
 fn is_named(source: &[u8], x: Name, text: &[u8]) -> bool
     ensures { result ≡ named source.now x text.now }
 {
-    same(spelling(source, x), text)
+    same(x.spelling(source), text)
 }
 
 // The first variable of that name, from the oldest on.
@@ -61,7 +54,7 @@ fn find_named(source: &[u8], variables: &[Declarator], text: &[u8]) -> Option<Va
 pub fn find_variable(t: &Table, variables: &[Declarator], x: Name) -> Option<Variable>
     ensures { result ≡ look (ctx_of t.now) variables.now x }
 {
-    find_named(t.source, variables, spelling(t.source, x))
+    find_named(t.source, variables, x.spelling(t.source))
 }
 
 pub fn slot_seen(v: Option<Variable>) -> usize
@@ -141,7 +134,7 @@ fn is_reserved(text: &[u8]) -> bool
 pub fn called(t: &Table, x: Name) -> Option<Callee>
     ensures { result ≡ callee (ctx_of t.now) x }
 {
-    let text = spelling(t.source, x);
+    let text = x.spelling(t.source);
     if is_left_out(text) {
         return None;
     }
@@ -155,7 +148,7 @@ pub fn called(t: &Table, x: Name) -> Option<Callee>
 pub fn is_taken(t: &Table, i: usize, x: Name) -> bool
     ensures { result ≡ taken (ctx_of t.now) i x }
 {
-    let text = spelling(t.source, x);
+    let text = x.spelling(t.source);
     if is_reserved(text) {
         return true;
     }
