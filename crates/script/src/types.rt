@@ -1,5 +1,5 @@
 // What the reader writes and the checker and the run go through.
-ghost use Rattle.std.specs.Prelude.{◌≡◌};
+ghost use Rattle.std.specs.Prelude.{◌≡◌, take, drop};
 ghost use Rattle.script.specs.Spelling.{spelled};
 
 #[derive(Clone, Copy, Debug, PartialEq, Eq)]
@@ -7,6 +7,14 @@ pub enum Type {
     Int,
     Ref,
     Q,
+}
+
+// At most `len` items from `at` on.
+fn part<T>(items: &[T], at: usize, len: usize) -> &[T]
+    ensures { result.now ≡ take len (drop at items.now) }
+{
+    let rest = items.get(at..).unwrap_or(&[]);
+    rest.get(..len).unwrap_or(rest)
 }
 
 // A name: the bytes of the source that spell it. A range and not a slice: a script owns its source, and a record cannot borrow from itself.
@@ -21,8 +29,7 @@ impl Name {
     pub fn spelling(self, source: &[u8]) -> &[u8]
         ensures { result.now ≡ spelled source.now self }
     {
-        let rest = source.get(self.at..).unwrap_or(&[]);
-        rest.get(..self.len).unwrap_or(rest)
+        part(source, self.at, self.len)
     }
 }
 
@@ -144,6 +151,15 @@ pub struct Function {
     pub formals: usize,
     pub entry: usize,
     pub close: usize,
+}
+
+impl Function {
+    // The function's own formals among those of its script.
+    pub fn formals_in(self, formals: &[Declarator]) -> &[Declarator]
+        ensures { result.now ≡ take self.formals (drop self.first formals.now) }
+    {
+        part(formals, self.first, self.formals)
+    }
 }
 
 #[derive(Clone, Copy, Debug, PartialEq, Eq)]
