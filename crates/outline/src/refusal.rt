@@ -1,14 +1,15 @@
-// Why a script is not read, in words.
-use position::position_of;
+// Why a script is not read.
 use reader::{ReadRefusal, Reason};
+use refusal_line::refusal_line;
 use std::alloc::{AllocError, Global};
+use tokens::Trouble;
 
 fn words(reason: Reason) -> &'static str {
     match reason {
         Reason::TooLong => "a script has at most 8,192 bytes",
-        Reason::NoToken => "no token begins with this byte",
-        Reason::OpenComment => "this comment is never closed",
-        Reason::LargeConstant => "this constant is above 9223372036854775807",
+        Reason::NoToken => Trouble::NoToken.words(),
+        Reason::OpenComment => Trouble::OpenComment.words(),
+        Reason::LargeConstant => Trouble::LargeConstant.words(),
         Reason::Wrong => "no program goes on like this",
         Reason::TooDeep =>
             "this stands inside more than 64 parentheses, braces, prefixes and bodies",
@@ -16,17 +17,13 @@ fn words(reason: Reason) -> &'static str {
     }
 }
 
-// LINE:COLUMN: refused with NUMBER at offset OFFSET: WORDS
-pub fn refusal_line(
-    heap: Global,
-    source: &[u8],
-    refusal: ReadRefusal,
-) -> Result<String, AllocError> {
-    let position = position_of(source, refusal.at);
-    let line = position.line;
-    let column = position.column;
-    let number = refusal.number();
-    let at = refusal.at;
-    let why = words(refusal.reason);
-    format!(in heap; "{line}:{column}: refused with {number} at offset {at}: {why}\n")
+// The line that refuses the source.
+pub fn refusal_of(heap: Global, source: &[u8], refusal: ReadRefusal) -> Result<String, AllocError> {
+    refusal_line(
+        heap,
+        source,
+        refusal.number(),
+        refusal.at,
+        words(refusal.reason),
+    )
 }

@@ -1,12 +1,26 @@
 // What the reader writes and the checker and the run go through.
-ghost use Rattle.std.specs.Prelude.{◌≡◌, take, drop};
-ghost use Rattle.script.specs.Spelling.{spelled};
+ghost use Rattle.std.specs.Prelude.{◌≡◌, take, drop, Some};
+ghost use Rattle.script.specs.Spelling.{spelled, type_text};
+
+use std::fmt;
 
 #[derive(Clone, Copy, Debug, PartialEq, Eq)]
 pub enum Type {
     Int,
     Ref,
     Q,
+}
+
+impl fmt::Display for Type {
+    ghost output = { λ ty. Some (type_text ty) };
+
+    fn fmt<W: fmt::Write>(&self, f: &mut fmt::Formatter<W>) -> fmt::Result {
+        f.write_str(match self {
+            Type::Int => "int",
+            Type::Ref => "Ref",
+            Type::Q => "Q",
+        })
+    }
 }
 
 // At most `len` items from `at` on.
