@@ -5,7 +5,7 @@ use Rattle.std.proofs.lemmas.Bool.{both_ways, lt-ltb, le-ltb, cond-true, cond-fa
 use Rattle.tokens.specs.declared.types.Placed.{Placed}
 use Rattle.tokens.specs.Spelling.{Item, symbol_of, item_of}
 use Rattle.lexemes.specs.declared.refusal.Reason.TheVariants.{LongSource}
-use Rattle.lexemes.specs.Listing.{after_blank, refusal_line, reason_at, line_by, lines_from, listing_of}
+use Rattle.lexemes.specs.Listing.{after_blank, reason_line, reason_at, line_by, lines_from, listing_of}
 
 -- a blank and then a word
 pub blank_word : (t u v word : List ℕ) → eqb (length word) 0 ≡ false → u ≡ t ++ 32 ∷ [] → v ≡ u ++ word → v ≡ t ++ after_blank word
@@ -36,7 +36,7 @@ lines_more source ps i d t u h so_far line =
     ∙ ap (λ k. lines_from source 0 (map item_of (take i ps)) ++ line_by source x (reason_at k x.symbol)) (sym before)
     ∙ sym (ap (lines_from source 0) (map_more item_of ps i d h) ∙ lines_push source 0 (map item_of (take i ps)) x)
 
-pub long_listing : (source : List ℕ) (items : List Item) → 8192 < length source → refusal_line source LongSource 8192 ≡ listing_of source items
+pub long_listing : (source : List ℕ) (items : List Item) → 8192 < length source → reason_line source LongSource 8192 ≡ listing_of source items
 long_listing source items h = sym (cond-true _ _ _ (lt-ltb 8192 (length source) h))
 
 pub short_listing : (source : List ℕ) (items : List Item) → length source ≤ 8192 → lines_from source 0 (take 2049 items) ≡ listing_of source items

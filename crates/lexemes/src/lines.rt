@@ -4,7 +4,7 @@ ghost use Rattle.tokens.specs.Spelling.{Item, symbol_of, item_of};
 ghost use Rattle.tokens.specs.Lexing.{Lexes};
 ghost use Rattle.lexemes.specs.Listing.{digits_of, kind_text, spelling, after_blank, item_line, reason_at, line_by, listing_of};
 
-use crate::refusal::{Reason, refusal_line};
+use crate::refusal::Reason;
 use std::alloc::{AllocError, Global};
 use tokens::{Placed, Token, TokenList};
 
@@ -121,7 +121,7 @@ fn push_line(
 {
     match reason_at(index, placed.token) {
         Some(reason) => {
-            let line = refusal_line(heap, source, reason, placed.at)?;
+            let line = reason.line(heap, source, placed.at)?;
             push(text, line.as_bytes())
         }
         None => push_item(heap, text, source, placed),
@@ -134,7 +134,7 @@ pub fn listing(heap: Global, source: &[u8]) -> Result<Vec<u8>, AllocError>
 {
     let mut text = Vec::new(heap);
     if source.len() > MOST_BYTES {
-        let line = refusal_line(heap, source, Reason::LongSource, MOST_BYTES)?;
+        let line = Reason::LongSource.line(heap, source, MOST_BYTES)?;
         push(&mut text, line.as_bytes())?;
         return Ok(text);
     }

@@ -2,14 +2,11 @@
 use reader::{ReadRefusal, Reason};
 use refusal_line::refusal_line;
 use std::alloc::{AllocError, Global};
-use tokens::Trouble;
 
 fn words(reason: Reason) -> &'static str {
     match reason {
         Reason::TooLong => "a script has at most 8,192 bytes",
-        Reason::NoToken => Trouble::NoToken.words(),
-        Reason::OpenComment => Trouble::OpenComment.words(),
-        Reason::LargeConstant => Trouble::LargeConstant.words(),
+        Reason::Trouble(trouble) => trouble.words(),
         Reason::Wrong => "no program goes on like this",
         Reason::TooDeep =>
             "this stands inside more than 64 parentheses, braces, prefixes and bodies",

@@ -1,6 +1,5 @@
 -- Levels of binary operators: what each way of reading one comes to. Assumes nothing.
 use Rattle.std.proofs.Common.{◌≡◌, ℕ, ◌-◌, ◌<◌, ◌≤◌, Bool, true, false, [], ◌∷◌, ◌++◌, length, vec_items, vec_len, Result, sym, ap, ◌∙◌, subst, append_assoc, arith}
-use Rattle.std.proofs.lemmas.Bool.{eq-eqb, ne_eqb}
 use Rattle.script.specs.declared.types.Operator.{Operator}
 use Rattle.script.specs.declared.types.Node.TheVariants as node
 use Rattle.script.specs.Tree as tree
@@ -9,7 +8,7 @@ use Rattle.script.specs.Flat.{flat}
 use Rattle.tokens.specs.Spelling.{Item}
 use Rattle.grammar.specs.Tokens.{first}
 use Rattle.grammar.specs.Combine.{Parser, kind_at}
-use Rattle.grammar.specs.Parse.{got, goes, level, operand, operates, binding, operator_of}
+use Rattle.grammar.specs.Parse.{got, goes, level, operand, operates, operator_of}
 use Rattle.reader.specs.declared.refusal.ReadRefusal.{ReadRefusal}
 use Rattle.reader.specs.declared.cursor.Cursor.{Cursor}
 use Rattle.reader.specs.declared.code.Code.{Code}
@@ -87,13 +86,10 @@ abbrev pub right_of : ℕ → ℕ → ℕ → Parser Expr
 right_of d n g = level false d g (operand g d) (operand g d) (n - 1)
 
 module _ (d n start : ℕ) {from : ℕ} {s0 s : Cursor} {o0 o : Code} (so : Chained (chained d n start) flat from s0 s o0 o) where
-  pub operators_done : {v : ℕ} → v ≡ binding (kind_at (left s)) → (v ≡ n → ⊥) → Followed (λ g. chained d n start g g) flat flat (λ _. Unit {0}) from s0 s o0 o
-  operators_done h f = chain_done d (operates n) (right_of d n) (binary_of start) so (ne_eqb (binding (kind_at (left s))) n (λ e. f (h ∙ e)))
+  pub operators_done : operates n (kind_at (left s)) ≡ false → Followed (λ g. chained d n start g g) flat flat (λ _. Unit {0}) from s0 s o0 o
+  operators_done h = chain_done d (operates n) (right_of d n) (binary_of start) so h
 
-  module _ {v : ℕ} (h : v ≡ binding (kind_at (left s))) (is_n : v ≡ n) where
-    here : operates n (kind_at (left s)) ≡ true
-    here = eq-eqb (binding (kind_at (left s))) n (sym h ∙ is_n)
-
+  module _ (here : operates n (kind_at (left s)) ≡ true) where
     pub operators_stuck : {r : ReadRefusal} → NotPassed d s r → Halts (λ g. chained d n start g g) flat from s0 o0 r
     operators_stuck k = chain_stuck d (operates n) (right_of d n) (binary_of start) so here k
 

@@ -2,6 +2,7 @@ pub mod Steps
 pub mod Paths
 pub mod Chains
 pub mod Forms
+pub mod Ranks
 pub mod Lists
 pub mod Deep
 pub mod Operands

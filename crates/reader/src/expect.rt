@@ -8,7 +8,7 @@ ghost use Rattle.reader.specs.Reading.{Refusal, Passes, Expects, IsConstant, IsN
 use crate::cursor::Cursor;
 use crate::refusal::{ReadRefusal, Reason};
 use script::Name;
-use tokens::{Keyword, Mark, Token, Trouble};
+use tokens::{Keyword, Mark, Token};
 
 impl<'a> Cursor<'a> {
     // The token at hand cannot stand here.
@@ -16,13 +16,8 @@ impl<'a> Cursor<'a> {
         ensures { Refusal (left self.now) why_bad result }
     {
         let reason = match self.here.token {
-            Token::Trouble(t) => match t {
-                Trouble::NoToken => Reason::NoToken,
-                Trouble::OpenComment => Reason::OpenComment,
-                Trouble::LargeConstant => Reason::LargeConstant,
-            },
-            Token::Name(_) | Token::Constant(_) | Token::Keyword(_) | Token::Mark(_) | Token::End =>
-                Reason::Wrong,
+            Token::Trouble(trouble) => Reason::Trouble(trouble),
+            _ => Reason::Wrong,
         };
         ReadRefusal {
             at: self.here.at,
@@ -55,20 +50,14 @@ impl<'a> Cursor<'a> {
         ensures value { result ≡ is (sign mark) (kind_at (left self.now)) }
         ensures token { result ≡ true → 1 < kind_at (left self.now) }
     {
-        match self.here.token {
-            Token::Mark(m) => m == mark,
-            _ => false,
-        }
+        matches!(self.here.token, Token::Mark(here) if here == mark)
     }
 
     pub(crate) fn at_keyword(&self, keyword: Keyword) -> bool
         ensures value { result ≡ is (word keyword) (kind_at (left self.now)) }
         ensures token { result ≡ true → 1 < kind_at (left self.now) }
     {
-        match self.here.token {
-            Token::Keyword(k) => k == keyword,
-            _ => false,
-        }
+        matches!(self.here.token, Token::Keyword(here) if here == keyword)
     }
 
     // The value of the constant at hand, if it is one.

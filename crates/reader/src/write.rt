@@ -1,20 +1,9 @@
 // Writing nodes, for which there is room.
-ghost use Rattle.std.specs.Prelude.{◌≡◌, ◌<◌, ◌≤◌, vec_len, vec_capacity};
-ghost use Rattle.reader.specs.Terms.{Wrote, Inserted, join_node};
+ghost use Rattle.std.specs.Prelude.{◌<◌, ◌≤◌, vec_len, vec_capacity};
+ghost use Rattle.reader.specs.Terms.{Wrote, Inserted};
 
 use crate::code::Code;
 use script::Node;
-
-// The node of `&&` or `||`, by how tightly it binds.
-pub(crate) fn join(n: u8, skip: usize) -> Node
-    ensures { result ≡ join_node n skip }
-{
-    if n == 1 {
-        Node::And { skip }
-    } else {
-        Node::Or { skip }
-    }
-}
 
 impl Code {
     pub(crate) fn push(&mut self, node: Node)

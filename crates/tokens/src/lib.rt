@@ -1,7 +1,6 @@
 // The tokens of a source.
 #![tactic(auto)]
 
-mod equal;
 mod fill;
 mod lexer;
 mod list;

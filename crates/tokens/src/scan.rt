@@ -1,7 +1,7 @@
 // Taking tokens one by one.
-ghost use Rattle.std.specs.Prelude.{◌≡◌, ◌∷◌, take};
+ghost use Rattle.std.specs.Prelude.{◌≡◌, ◌↔◌, ◌∷◌, take, IsTrue};
 ghost use Rattle.byte_class.specs.Classes.{digit};
-ghost use Rattle.tokens.specs.Spelling.{wordy, symbol_of};
+ghost use Rattle.tokens.specs.Spelling.{mark as sign, wordy, symbol_of};
 ghost use Rattle.tokens.specs.Scan.{run, starts, word, number, comment, one, one_or_two, two, front_by, front, final};
 ghost use Rattle.tokens.specs.State.{front_of, rest, here, beyond, Inside, Advances, Took};
 
@@ -18,6 +18,15 @@ impl Token<'_> {
         match self {
             Token::End | Token::Trouble(_) => true,
             Token::Name(_) | Token::Constant(_) | Token::Keyword(_) | Token::Mark(_) => false,
+        }
+    }
+
+    pub fn is_mark(self, mark: Mark) -> bool
+        ensures { IsTrue result ↔ (symbol_of self.entry ≡ sign mark) }
+    {
+        match self {
+            Token::Mark(found) => found == mark,
+            _ => false,
         }
     }
 }

@@ -15,7 +15,7 @@ pub enum Keyword {
     Nil,
 }
 
-#[derive(Clone, Copy, Debug)]
+#[derive(Clone, Copy, Debug, PartialEq, Eq)]
 pub enum Mark {
     LeftParen,
     RightParen,

@@ -7,7 +7,8 @@ use Rattle.tokens.specs.declared.types.Mark.TheVariants as sign
 use Rattle.grammar.specs.Combine.{after, ret, want}
 use Rattle.grammar.specs.Parse.{expression, assignment, statement, statements, otherwise}
 use Rattle.reader.specs.Statements.{Goes}
-use Rattle.reader.proofs.Says.{at_start, takes, stops, goes_on, breaks, wants, unwanted, passed_one}
+use Rattle.reader.proofs.Paths.{moves, and, pass, wrote, moved_by}
+use Rattle.reader.proofs.Says.{at_start, takes, stops, goes_on, breaks, wants, unwanted}
 use Rattle.reader.proofs.Writes.{around, reads_on, opens_reads}
 use Rattle.reader.proofs.Joins.{chose_then, chose_else, repeated}
 use Rattle.reader.proofs.Turns.{listed_none, listed_more, listed_all, turn_fails}
@@ -116,13 +117,12 @@ pub block-returns : goal.block-returns
 block-returns t c =
     let r = rw (add-one c.args.depth) at c.in_ok-statements.ensures in
     let w = c.in_ok-expect.ensures in
-    let e = passed_one w.1 in
     let l = wants _ sign.RightBrace _ (goes_on _ _ (at_start (λ g. after (statements g (suc c.args.depth)) (λ x. want c.args.depth sign.RightBrace (ret (tree.block c.args.at x)))) c.args.cursor.now) r.tree r.is r.moved.fall) w in
     record {
       tree = tree.block c.args.at r.tree;
       is = l.is;
-      code = around (vec_items c.args.self.now.nodes) (node.BeginBlock c.args.at) node.EndScope (flat_stmts r.tree) c.push_reserved.ensures.items r.code c.push_reserved-2.ensures.items;
-      moved = record { on = omega arith; few = omega arith; fall = omega arith; spent = omega arith; grown = omega arith; cap = omega arith; functions = r.moved.functions; formals = r.moved.formals };
+      code = around (vec_items c.args.self.now.nodes) (node.BeginBlock c.args.at) node.EndScope (flat_stmts r.tree) c.push.ensures.items r.code c.push-2.ensures.items;
+      moved = moved_by (and (wrote c.push.ensures) (and (moves r.moved) (and (pass w.1) (wrote c.push-2.ensures)))) c.requires.spare.few (omega arith);
     }
 
 pub body-returns : goal.body-returns
@@ -131,8 +131,8 @@ body-returns t c =
     record {
       tree = r.tree;
       is = r.is;
-      code = c.push_reserved.ensures.items ∙ ap (λ l. l ++ (node.EndScope ∷ [])) r.code ∙ append_assoc (vec_items c.args.self.now.nodes) _ _;
-      moved = record { on = omega arith; few = omega arith; fall = omega arith; spent = omega arith; grown = omega arith; cap = omega arith; functions = r.moved.functions; formals = r.moved.formals };
+      code = c.push.ensures.items ∙ ap (λ l. l ++ (node.EndScope ∷ [])) r.code ∙ append_assoc (vec_items c.args.self.now.nodes) _ _;
+      moved = moved_by (and (moves r.moved) (wrote c.push.ensures)) c.requires.few (omega arith);
     }
 
 pub choice-returns-in_err-start : goal.choice-returns-in_err-start
@@ -150,7 +150,7 @@ choice-returns-in_err-body t c =
 pub choice-returns-then-not-at_keyword : goal.choice-returns-then-not-at_keyword
 choice-returns-then-not-at_keyword t c =
     let r = rw (add-one c.args.depth) at c.in_ok-body.ensures in
-    chose_then c.args.depth c.args.at c.in_ok-start.start c.len.result c.in_ok-start.ensures r c.len.ensures (sym c.at_keyword.ensures.value ∙ c.if-not-at_keyword.true) (record { items = c.place.ensures.items; len = c.place.ensures.len; cap = c.place.ensures.capacity; functions = c.place.ensures.functions; formals = c.place.ensures.formals })
+    chose_then c.args.depth c.args.at c.in_ok-start.start c.len.result c.in_ok-start.ensures r c.len.ensures (sym c.at_keyword.ensures.value ∙ c.if-not-at_keyword.true) c.insert.ensures
 
 pub choice-returns-in_err-take : goal.choice-returns-in_err-take
 choice-returns-in_err-take t c =
@@ -175,7 +175,7 @@ choice-returns t c =
     let r = rw (add-one c.args.depth) at c.in_ok-body.ensures in
     let s = rw (add-one c.args.depth) at c.in_ok-body-2.ensures in
     chose_else c.args.depth c.args.at c.in_ok-start.start c.len.result c.in_ok-start.ensures r c.len.ensures
-    c.len-other.result c.len-2.result (sym c.at_keyword.ensures.value ∙ c.if-not-at_keyword.false) c.in_ok-take.ensures (record { items = c.place-2.ensures.items; len = c.place-2.ensures.len; cap = c.place-2.ensures.capacity; functions = c.place-2.ensures.functions; formals = c.place-2.ensures.formals }) c.len-other.ensures s c.len-2.ensures (record { items = c.place-3.ensures.items; len = c.place-3.ensures.len; cap = c.place-3.ensures.capacity; functions = c.place-3.ensures.functions; formals = c.place-3.ensures.formals })
+    c.len-other.result c.len-2.result (sym c.at_keyword.ensures.value ∙ c.if-not-at_keyword.false) c.in_ok-take.ensures c.insert-2.ensures c.len-other.ensures s c.len-2.ensures c.insert-3.ensures
 
 pub repetition-returns-in_err-start : goal.repetition-returns-in_err-start
 repetition-returns-in_err-start t c =
@@ -193,7 +193,7 @@ pub repetition-returns : goal.repetition-returns
 repetition-returns t c =
     let r = rw (add-one c.args.depth) at c.in_ok-body.ensures in
     repeated c.args.depth c.args.at c.in_ok-start.start c.len.result c.in_ok-start.ensures r c.len.ensures
-    {o3 = c.place.new.self} c.len-begin.result c.len-2.result c.len-begin.ensures (record { items = c.place.ensures.items; len = c.place.ensures.len; cap = c.place.ensures.capacity; functions = c.place.ensures.functions; formals = c.place.ensures.formals }) c.len-2.ensures c.push_reserved.ensures.items c.push_reserved.ensures.len c.push_reserved.ensures.capacity refl refl
+    {o3 = c.insert.new.self} c.len-begin.result c.len-2.result c.len-begin.ensures c.insert.ensures c.len-2.ensures c.push.ensures
 
 pub statements-loop-self-init : goal.statements-loop-self-init
 statements-loop-self-init t c =

@@ -1,9 +1,11 @@
-use Rattle.std.proofs.Common.{suc, ◌-◌, sym, ap, ◌∙◌, arith}
+use Rattle.std.proofs.Common.{suc, ◌-◌, sym, ap, ◌∙◌}
 use Rattle.std.proofs.lemmas.Result.{err_from_is_err_and}
 use Rattle.grammar.specs.Parse.{expression}
 use Rattle.reader.proofs.Lists.{start_list, list_turn, list_done, list_open, list_stuck, list_broke, list_fails, list_none, list_none_stuck}
 use Rattle.reader.proofs.Deep.{passed_in, stuck_in, stops_in, went_in}
 use Rattle.reader.proofs.Operands.{named_variable, named_stuck, named_broke, named_call, inside_merged, inside_plain, cast_stuck, cast_open, cast_broke, cast_done, group_broke, group_open, group_done, constant_stuck, constant_done, name_stuck, name_broke, name_done, nil_stuck, nil_done, minus_stuck, minus_broke, minus_done, operand_wrong, bracket_stuck, bracket_done}
+use Rattle.reader.specs.Binding.{rank, join_rank}
+use Rattle.reader.proofs.Ranks.{some_rank, some_join}
 use Rattle.reader.proofs.Levels.{level_operand, level_fails, level_condition, level_broke, level_done, operators_done, operators_stuck, operators_broke, operators_again}
 use Rattle.reader.proofs.Conditions.{compared_stuck, compared_broke, compared_done, compared_wrong, compared_none, not_stuck, not_broke, not_done, thing_broke, thing_condition, thing_expression, conditions_one, conditions_fail, conditions_expression, conditions_broke, conditions_done, joins_done, joins_stuck, joins_broke, joins_again}
 use Rattle.reader.proofs.code.Code.+terms.Goals as goal
@@ -163,42 +165,42 @@ operand-returns t c = bracket_done c.args.merged c.args.depth c.in_default.ensur
 
 -- level
 
-pub level-returns-then-n-eq0 : goal.level-returns-then-n-eq0
-level-returns-then-n-eq0 t c = level_operand c.args.merged c.args.n c.args.depth c.args.cursor.now c.operand.new.cursor c.args.self.now c.operand.new.self c.operand.result c.if-n-eq0.true c.operand.ensures
+pub level-returns-in_default : goal.level-returns-in_default
+level-returns-in_default t c = level_operand c.args.merged _ c.args.depth c.args.cursor.now c.operand.new.cursor c.args.self.now c.operand.new.self c.operand.result (ap rank c.in_default.is) c.operand.ensures
 
 pub level-returns-in_err-level : goal.level-returns-in_err-level
 level-returns-in_err-level t c =
     let p = err_from_is_err_and c.from_residual.result c.from_residual.ensures.1 in
-    rw (p.1, p.2) (level_fails c.args.merged c.args.n c.args.depth (omega arith) c.in_err-level.ensures)
+    rw (p.1, p.2, c.in-Some.is) (level_fails c.args.merged _ c.args.depth (some_rank c.in-Some.binding) (rw c.tighter.ensures at c.in_err-level.ensures))
 
 pub level-returns-in_err-chain-in-Expression : goal.level-returns-in_err-chain-in-Expression
 level-returns-in_err-chain-in-Expression t c =
     let p = err_from_is_err_and c.from_residual-in_err-chain-in-Expression.result c.from_residual-in_err-chain-in-Expression.ensures.1 in
-    rw (p.1, p.2) (level_broke c.args.merged c.args.n c.args.depth (omega arith) c.in_ok-level.ensures c.in-Expression.is c.len-from.ensures c.in_err-chain-in-Expression.ensures)
+    rw (p.1, p.2, c.in-Some.is) (level_broke c.args.merged _ c.args.depth (some_rank c.in-Some.binding) (rw c.tighter.ensures at c.in_ok-level.ensures) c.in-Expression.is c.len-from.ensures c.in_err-chain-in-Expression.ensures)
 
 pub level-returns-in-Condition : goal.level-returns-in-Condition
-level-returns-in-Condition t c = level_condition c.args.merged c.args.n c.args.depth (omega arith) c.in_ok-level.ensures c.in-Condition.is
+level-returns-in-Condition t c = rw c.in-Some.is (level_condition c.args.merged _ c.args.depth (some_rank c.in-Some.binding) (rw c.tighter.ensures at c.in_ok-level.ensures) c.in-Condition.is)
 
 pub level-returns-in_ok-chain-in-Expression : goal.level-returns-in_ok-chain-in-Expression
-level-returns-in_ok-chain-in-Expression t c = level_done c.args.merged c.args.n c.args.depth (omega arith) c.in_ok-level.ensures c.in-Expression.is c.len-from.ensures c.requires.ready.few c.in_ok-chain-in-Expression.ensures
+level-returns-in_ok-chain-in-Expression t c = rw c.in-Some.is (level_done c.args.merged _ c.args.depth (some_rank c.in-Some.binding) (rw c.tighter.ensures at c.in_ok-level.ensures) c.in-Expression.is c.len-from.ensures c.requires.few c.in_ok-chain-in-Expression.ensures)
 
 -- chain
 
 pub chain-returns-in_err-take : goal.chain-returns-in_err-take
 chain-returns-in_err-take t c =
     let p = err_from_is_err_and c.from_residual.result c.from_residual.ensures.1 in
-    rw (p.1, p.2) (operators_stuck c.args.depth c.args.n c.args.start c.loop-at.invariant c.binding.ensures c.loop-at-test.true c.in_err-take.ensures)
+    rw (p.1, p.2) (operators_stuck c.args.depth _ c.args.start c.loop-operator.invariant c.in-Some.ensures.0 c.in_err-take.ensures)
 
 pub chain-returns-in_err-level : goal.chain-returns-in_err-level
 chain-returns-in_err-level t c =
     let p = err_from_is_err_and c.from_residual-in_err-level.result c.from_residual-in_err-level.ensures.1 in
-    rw (p.1, p.2) (operators_broke c.args.depth c.args.n c.args.start c.loop-at.invariant c.binding.ensures c.loop-at-test.true c.in_ok-take.ensures c.in_err-level.ensures)
+    rw (p.1, p.2) (operators_broke c.args.depth _ c.args.start c.loop-operator.invariant c.in-Some.ensures.0 c.in_ok-take.ensures (rw c.tighter.ensures at c.in_err-level.ensures))
 
-pub chain-loop-at-preserved : goal.chain-loop-at-preserved
-chain-loop-at-preserved t c = operators_again c.args.depth c.args.n c.args.start c.loop-at.invariant c.binding.ensures c.loop-at-test.true c.in_ok-take.ensures c.operator-operator.ensures c.insert.ensures c.in_ok-level.ensures c.push.ensures
+pub chain-loop-operator-preserved : goal.chain-loop-operator-preserved
+chain-loop-operator-preserved t c = operators_again c.args.depth _ c.args.start c.loop-operator.invariant c.in-Some.ensures.0 c.in_ok-take.ensures c.in-Some.ensures.1 c.insert.ensures (rw c.tighter.ensures at c.in_ok-level.ensures) c.push.ensures
 
 pub chain-returns : goal.chain-returns
-chain-returns t c = operators_done c.args.depth c.args.n c.args.start c.loop-at.invariant c.binding.ensures c.loop-at-test.false
+chain-returns t c = operators_done c.args.depth _ c.args.start c.loop-operator.invariant c.in_default.ensures
 
 -- compared
 
@@ -249,39 +251,40 @@ negation-returns-in-Expression t c = thing_expression c.args.must c.args.depth (
 
 -- conditions
 
-pub conditions-returns-then-n-eq0 : goal.conditions-returns-then-n-eq0
-conditions-returns-then-n-eq0 t c = conditions_one c.args.must c.args.n c.args.depth c.args.cursor.now c.negation.new.cursor c.args.self.now c.negation.new.self c.negation.result c.if-n-eq0.true c.negation.ensures
+pub conditions-returns-in_default : goal.conditions-returns-in_default
+conditions-returns-in_default t c = conditions_one c.args.must _ c.args.depth c.args.cursor.now c.negation.new.cursor c.args.self.now c.negation.new.self c.negation.result (ap join_rank c.in_default.is) c.negation.ensures
 
 pub conditions-returns-in_err-conditions : goal.conditions-returns-in_err-conditions
 conditions-returns-in_err-conditions t c =
     let p = err_from_is_err_and c.from_residual.result c.from_residual.ensures.1 in
-    rw (p.1, p.2) (conditions_fail c.args.must c.args.n c.args.depth (omega arith) c.in_err-conditions.ensures)
+    rw (p.1, p.2, c.in-Some.is) (conditions_fail c.args.must _ c.args.depth (some_join c.in-Some.join) (rw c.tighter.ensures at c.in_err-conditions.ensures))
 
 pub conditions-returns-in_err-joined-in-Condition : goal.conditions-returns-in_err-joined-in-Condition
 conditions-returns-in_err-joined-in-Condition t c =
     let p = err_from_is_err_and c.from_residual-in_err-joined-in-Condition.result c.from_residual-in_err-joined-in-Condition.ensures.1 in
-    rw (p.1, p.2) (conditions_broke c.args.must c.args.n c.args.depth (omega arith) c.in_ok-conditions.ensures c.in-Condition.is c.len-from.ensures c.in_err-joined-in-Condition.ensures)
+    rw (p.1, p.2, c.in-Some.is) (conditions_broke c.args.must _ c.args.depth (some_join c.in-Some.join) (rw c.tighter.ensures at c.in_ok-conditions.ensures) c.in-Condition.is c.len-from.ensures c.in_err-joined-in-Condition.ensures)
 
 pub conditions-returns-in-Expression : goal.conditions-returns-in-Expression
-conditions-returns-in-Expression t c = conditions_expression c.args.must c.args.n c.args.depth (omega arith) c.in_ok-conditions.ensures c.in-Expression.is
+conditions-returns-in-Expression t c = rw c.in-Some.is (conditions_expression c.args.must _ c.args.depth (some_join c.in-Some.join) (rw c.tighter.ensures at c.in_ok-conditions.ensures) c.in-Expression.is)
 
 pub conditions-returns-in_ok-joined-in-Condition : goal.conditions-returns-in_ok-joined-in-Condition
-conditions-returns-in_ok-joined-in-Condition t c = conditions_done c.args.must c.args.n c.args.depth (omega arith) c.in_ok-conditions.ensures c.in-Condition.is c.len-from.ensures c.requires.ready.few c.in_ok-joined-in-Condition.ensures
+conditions-returns-in_ok-joined-in-Condition t c = rw c.in-Some.is (conditions_done c.args.must _ c.args.depth (some_join c.in-Some.join) (rw c.tighter.ensures at c.in_ok-conditions.ensures) c.in-Condition.is c.len-from.ensures c.requires.few c.in_ok-joined-in-Condition.ensures)
 
 -- joined
 
 pub joined-returns-in_err-take : goal.joined-returns-in_err-take
 joined-returns-in_err-take t c =
     let p = err_from_is_err_and c.from_residual.result c.from_residual.ensures.1 in
-    rw (p.1, p.2) (joins_stuck c.args.depth c.args.n c.loop-at.invariant c.joining.ensures c.loop-at-test.true c.in_err-take.ensures)
+    rw (p.1, p.2) (joins_stuck c.args.depth c.args.join c.loop-join.invariant (sym c.joins.ensures.value ∙ c.loop-join-test.true) c.in_err-take.ensures)
 
 pub joined-returns-in_err-conditions : goal.joined-returns-in_err-conditions
 joined-returns-in_err-conditions t c =
     let p = err_from_is_err_and c.from_residual-in_err-conditions.result c.from_residual-in_err-conditions.ensures.1 in
-    rw (p.1, p.2) (joins_broke c.args.depth c.args.n c.loop-at.invariant c.joining.ensures c.loop-at-test.true c.in_ok-take.ensures c.in_err-conditions.ensures)
+    rw (p.1, p.2) (joins_broke c.args.depth c.args.join c.loop-join.invariant (sym c.joins.ensures.value ∙ c.loop-join-test.true) c.in_ok-take.ensures (rw c.tighter.ensures at c.in_err-conditions.ensures))
 
-pub joined-loop-at-preserved : goal.joined-loop-at-preserved
-joined-loop-at-preserved t c = joins_again c.args.depth c.args.n c.loop-at.invariant c.joining.ensures c.loop-at-test.true c.requires.some c.in_ok-take.ensures c.insert.ensures c.len-middle.ensures c.in_ok-conditions.ensures (ap (λ n. n - c.len-middle.result) c.len.ensures) c.join.ensures c.insert-in-loop-at.ensures
+pub joined-loop-join-preserved : goal.joined-loop-join-preserved
+joined-loop-join-preserved t c =
+    joins_again c.args.depth c.args.join c.loop-join.invariant (sym c.joins.ensures.value ∙ c.loop-join-test.true) c.in_ok-take.ensures c.insert.ensures c.len-middle.ensures (rw c.tighter.ensures at c.in_ok-conditions.ensures) (ap (λ n. n - c.len-middle.result) c.len.ensures) c.node.ensures c.insert-in-loop-join.ensures
 
 pub joined-returns : goal.joined-returns
-joined-returns t c = joins_done c.args.depth c.args.n c.loop-at.invariant c.joining.ensures c.loop-at-test.false
+joined-returns t c = joins_done c.args.depth c.args.join c.loop-join.invariant (sym c.joins.ensures.value ∙ c.loop-join-test.false)

@@ -5,7 +5,8 @@ use Rattle.script.specs.Tree as tree
 use Rattle.script.specs.Flat.{flats, flat_stmt}
 use Rattle.tokens.specs.declared.types.Mark.TheVariants as sign
 use Rattle.grammar.specs.Parse.{expression, assignment}
-use Rattle.reader.proofs.Says.{at_start, takes, leaves, stops, goes_on, breaks, wants, unwanted, passed_one}
+use Rattle.reader.proofs.Paths.{moves, and, pass, wrote, moved_by}
+use Rattle.reader.proofs.Says.{at_start, takes, leaves, stops, goes_on, breaks, wants, unwanted}
 use Rattle.reader.proofs.Writes.{around, goes_further}
 use Rattle.reader.proofs.code.Code.assignment.Goals as goal
 
@@ -52,13 +53,11 @@ returns c =
     let n = goes_on _ _ m r.tree r.is r.moved.fall in
     let w = c.in_ok-expect-2.ensures in
     let k = wants _ sign.Semicolon _ n w in
-    let e1 = passed_one v.1 in
-    let e2 = passed_one w.1 in
     record {
       tree = tree.calls c.args.name r.tree;
       is = k.is;
       code =
-          around (vec_items c.args.self.now.nodes) (node.Begin c.args.name.at) _ (flats r.tree) c.push_reserved.ensures.items r.code c.push_reserved-2.ensures.items
+          around (vec_items c.args.self.now.nodes) (node.Begin c.args.name.at) _ (flats r.tree) c.push.ensures.items r.code c.push-2.ensures.items
           ∙ ap (λ j. vec_items c.args.self.now.nodes ++ (node.Begin c.args.name.at ∷ (flats r.tree ++ (node.CallStatement c.args.name j ∷ [])))) a.number;
-      moved = record { on = omega arith; few = omega arith; fall = omega arith; spent = omega arith; grown = omega arith; cap = omega arith; functions = r.moved.functions; formals = r.moved.formals };
+      moved = moved_by (and (pass v.1) (and (wrote c.push.ensures) (and (moves r.moved) (and (pass w.1) (wrote c.push-2.ensures))))) c.requires.few (omega arith);
     }

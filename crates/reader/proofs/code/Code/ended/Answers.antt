@@ -4,7 +4,8 @@ use Rattle.script.specs.Flat.{flat}
 use Rattle.script.specs.declared.types.Node.TheVariants.{Begin}
 use Rattle.tokens.specs.declared.types.Mark.TheVariants as sign
 use Rattle.grammar.specs.Parse.{expression, ended}
-use Rattle.reader.proofs.Says.{at_start, goes_on, breaks, wants, unwanted, passed_one}
+use Rattle.reader.proofs.Paths.{moves, and, pass, wrote, moved_by}
+use Rattle.reader.proofs.Says.{at_start, goes_on, breaks, wants, unwanted}
 use Rattle.reader.proofs.Writes.{around}
 use Rattle.reader.proofs.code.Code.ended.Goals as goal
 
@@ -27,10 +28,9 @@ returns c f law =
     let w = c.in_ok-expect.ensures in
     let l = goes_on _ _ (at_start (λ g. ended c.args.depth (expression g c.args.depth) f) c.args.cursor.now) r.tree r.is r.moved.fall in
     let m = wants _ sign.Semicolon _ l w in
-    let n = passed_one w.1 in
     record {
       tree = f r.tree;
       is = m.is;
-      code = around (vec_items c.args.self.now.nodes) (Begin c.args.at) c.args.node (flat r.tree) c.push_reserved.ensures.items r.code c.push_reserved-2.ensures.items ∙ ap (λ ns. vec_items c.args.self.now.nodes ++ ns) (sym (law r.tree));
-      moved = record { on = omega arith; few = omega arith; fall = omega arith; spent = omega arith; grown = omega arith; cap = omega arith; functions = r.moved.functions; formals = r.moved.formals };
+      code = around (vec_items c.args.self.now.nodes) (Begin c.args.at) c.args.node (flat r.tree) c.push.ensures.items r.code c.push-2.ensures.items ∙ ap (λ ns. vec_items c.args.self.now.nodes ++ ns) (sym (law r.tree));
+      moved = moved_by (and (wrote c.push.ensures) (and (moves r.moved) (and (pass w.1) (wrote c.push-2.ensures)))) c.requires.few (omega arith);
     }

@@ -1,4 +1,4 @@
-use Rattle.std.proofs.Common.{◌-◌, refl, ap, arith}
+use Rattle.std.proofs.Common.{vec_len, ◌-◌, refl, ap, arith}
 use Rattle.std.proofs.lemmas.Result.{err_from_is_err_and}
 use Rattle.tokens.specs.declared.types.Mark.TheVariants as sign
 use Rattle.grammar.specs.Parse.{function}
@@ -39,6 +39,7 @@ returns-in_err-expect-2 c =
 pub overflow_sub-formals : goal.overflow_sub-formals
 overflow_sub-formals c =
     let f = c.in_ok-formals_after.ensures.listing.kept.grown_formals in
+    let e = ap vec_len c.push.ensures.formals in
     omega arith
 
 pub returns-in_err-statements : goal.returns-in_err-statements
@@ -81,9 +82,10 @@ returns c =
       is = l6.is;
       written =
           function_written c.in_ok-head.head d c.in_ok-expect.ensures.1 f c.in_ok-expect-2.ensures.1 s c.in_ok-expect-3.ensures.1 c.len-first.result (c.len.result - c.len-first.result) c.len-entry.result
-          (record { items = c.push_reserved.ensures.items; len = c.push_reserved.ensures.len; cap = c.push_reserved.ensures.capacity; functions = refl; formals = refl })
+          c.push.ensures
           c.len-first.ensures (ap (λ n. n - c.len-first.result) c.len.ensures) c.len-entry.ensures
-          (record { items = c.push_reserved-2.ensures.items; len = c.push_reserved-2.ensures.len; cap = c.push_reserved-2.ensures.capacity; entries = c.push_reserved-3.ensures.items; entries_len = c.push_reserved-3.ensures.len; entries_cap = c.push_reserved-3.ensures.capacity; formals = refl });
+          c.push-2.ensures
+          (record { items = c.push_reserved.ensures.items; len = c.push_reserved.ensures.len; cap = c.push_reserved.ensures.capacity; nodes = refl; formals = refl });
       shorter = function_shorter c.in_ok-head.head d c.in_ok-expect.ensures.1 f c.in_ok-expect-2.ensures.1 s c.in_ok-expect-3.ensures.1;
       some = function_some c.in_ok-head.head d c.in_ok-expect.ensures.1 f c.in_ok-expect-2.ensures.1 s c.in_ok-expect-3.ensures.1;
     }
