@@ -1,5 +1,5 @@
 // Each source of a table is read, and what comes of it is compared as text: the words of its flat code in order, or the refusal.
-use reader::ReadScript;
+use reader::{ReadRefusal, ReadScript};
 use script::{Comparison, Name, Node, Operator};
 use std::alloc::{AllocError, Global};
 use std::test::Fail;
@@ -81,15 +81,17 @@ fn code_text(heap: Global, script: &ReadScript) -> Result<String, AllocError> {
     Ok(text)
 }
 
+fn refusal_text(heap: Global, refusal: ReadRefusal) -> Result<String, AllocError> {
+    let number = refusal.number();
+    let at = refusal.at;
+    format!(in heap; "{number} at {at}")
+}
+
 fn read_text(heap: Global, source: &[u8]) -> Result<String, AllocError> {
     let mut script = ReadScript::new(heap)?;
     match script.read(source) {
         Ok(()) => code_text(heap, &script),
-        Err(refusal) => {
-            let number = refusal.number();
-            let at = refusal.at;
-            format!(in heap; "{number} at {at}")
-        }
+        Err(refusal) => refusal_text(heap, refusal),
     }
 }
 
@@ -271,29 +273,16 @@ fn nested(
     middle: &str,
     back: &str,
 ) -> Result<String, AllocError> {
-    let mut text = String::from_str(heap, "int main(int a) { ")?;
-    text.push_str(begin)?;
-    for _ in 0..count {
-        text.push_str(front)?;
-    }
-    text.push_str(middle)?;
-    for _ in 0..count {
-        text.push_str(back)?;
-    }
-    text.push_str(" }")?;
-    Ok(text)
+    let fronts = front.repeat(heap, count)?;
+    let backs = back.repeat(heap, count)?;
+    format!(in heap; "int main(int a) {{ {begin}{fronts}{middle}{backs} }}")
 }
 
 fn check_verdict(heap: Global, source: &[u8], verdict: &str, what: &str) -> Result<(), Fail> {
     let mut script = ReadScript::new(heap)?;
     match script.read(source) {
         Ok(()) => check_text("read", verdict, what),
-        Err(refusal) => {
-            let number = refusal.number();
-            let at = refusal.at;
-            let text = format!(in heap; "{number} at {at}")?;
-            check_text(text.as_str(), verdict, what)
-        }
+        Err(refusal) => check_text(&refusal_text(heap, refusal)?, verdict, what),
     }
 }
 
