@@ -149,10 +149,12 @@ impl Outline<'_> {
     fn function(&mut self, function: Function) -> io::Result<()> {
         self.head(function)?;
         let script = self.script;
-        for node in script.nodes().iter().skip(function.entry) {
-            if let Node::Leave { .. } = *node {
-                break;
-            }
+        for node in script
+            .nodes()
+            .iter()
+            .skip(function.entry)
+            .take_while(|node| !matches!(node, Node::Leave { .. }))
+        {
             self.node(*node)?;
         }
         self.close();

@@ -4,6 +4,7 @@ use script::{Comparison, Name, Node, Operator};
 use std::alloc::{AllocError, Global};
 use std::test::Fail;
 
+// The words of operators and comparisons here are the tests' own, beside what they expect.
 fn operator_text(operator: Operator) -> &'static str {
     match operator {
         Operator::Multiply => "*",
@@ -107,22 +108,19 @@ fn check_read(heap: Global, source: &[u8], words: &str, what: &str) -> Result<()
     check_text(text.as_str(), words, what)
 }
 
-// Each row is a body of `int main(int a) { .. }`, so that it begins at offset 18.
-fn check_bodies(heap: Global, rows: &[(&str, &str)]) -> Result<(), Fail> {
-    for (body, words) in rows {
-        let source = format!(in heap; "int main(int a) {{ {body} }}")?;
-        let what = format!(in heap; "the body is {body:?}")?;
+// Each row is a part of a source, between the same front and back.
+fn check_rows(heap: Global, front: &str, rows: &[(&str, &str)], back: &str) -> Result<(), Fail> {
+    for (part, words) in rows {
+        let source = format!(in heap; "{front}{part}{back}")?;
+        let what = format!(in heap; "the source is {source:?}")?;
         check_read(heap, source.as_bytes(), words, &what)?;
     }
     Ok(())
 }
 
-fn check_sources(heap: Global, rows: &[(&str, &str)]) -> Result<(), Fail> {
-    for (source, words) in rows {
-        let what = format!(in heap; "the source is {source:?}")?;
-        check_read(heap, source.as_bytes(), words, &what)?;
-    }
-    Ok(())
+// Each row is a body, so that it begins at offset 18.
+fn check_bodies(heap: Global, rows: &[(&str, &str)]) -> Result<(), Fail> {
+    check_rows(heap, "int main(int a) { ", rows, " }")
 }
 
 const EXPRESSIONS: [(&str, &str); 12] = [
@@ -260,7 +258,7 @@ const SOURCES: [(&str, &str); 22] = [
 fn refusals(rt: HostRuntime) -> Result<(), Fail> {
     let heap = rt.alloc();
     check_bodies(heap, &WRONG)?;
-    check_sources(heap, &SOURCES)?;
+    check_rows(heap, "", &SOURCES, "")?;
     check_read(heap, b"int f() { \xff", "2 at 10", "a byte above 127")
 }
 
