@@ -96,6 +96,7 @@ fn read_text(heap: Global, source: &[u8]) -> Result<String, AllocError> {
     }
 }
 
+// The same six lines stand in the tests of tokens: a library for them alone would be no shorter.
 fn check_text(text: &str, expected: &str, what: &str) -> Result<(), Fail> {
     if text == expected {
         return Ok(());

@@ -1,5 +1,5 @@
 -- What a search by name and the order of faults give.
-use Rattle.std.proofs.Common.{◌≡◌, ◌||◌, ℕ, ◌+◌, Bool, true, false, cond, List, [], ◌∷◌, Some, None, Option, option_map, refl, sym, ap, ◌∙◌, add-one, find, Bor}
+use Rattle.std.proofs.Common.{◌≡◌, ◌||◌, ℕ, suc, ◌+◌, Bool, true, false, cond, List, [], ◌∷◌, Some, None, Option, option_map, refl, sym, ap, ◌∙◌, add-one, find, Bor}
 use Rattle.std.specs.Bool.{◌==◌, one_answer}
 use Rattle.std.specs.Str.{bytes_eq}
 use Rattle.std.specs.Cmp.Lexicographic.{pointwise}
@@ -8,42 +8,38 @@ use Rattle.std.proofs.lemmas.Bool.Decides.{Decides-eqb}
 use Rattle.std.specs.List.{enumerate_from}
 use Rattle.script.specs.declared.types.Declarator.{Declarator}
 use Rattle.script.specs.declared.types.Function.{Function}
-use Rattle.typing.specs.declared.types.Callee.{Callee}
 use Rattle.typing.specs.declared.types.Callee.TheVariants.{Defined as defined}
 use Rattle.typing.specs.declared.types.Variable.{Variable}
 use Rattle.typing.specs.Names.{named, find as find_variable, find_function}
 
-abbrev function_at : ℕ × Function → Callee
-function_at p = defined p.0 p.1
-
-abbrev variable_at : ℕ × Declarator → Variable
-variable_at p = record { slot = p.0; declared = p.1 }
+abbrev variable : ℕ → Declarator → Variable
+variable i d = record { slot = i; declared = d }
 
 -- what is found is the first item, or else is found in the others
 map_cond : {X Y : Type 0} (b : Bool) (f : X → Y) (x : X) (o : Option X) (p : Option Y) → option_map f o ≡ p → option_map f (cond b (Some x) o) ≡ cond b (Some (f x)) p
 map_cond true f x o p h = refl
 map_cond false f x o p h = h
 
+-- the first item of a list that passes, as a definition of the rules finds it, and as `find` over `enumerate` does
+module _ {X Y : Type 0} (passes : X → Bool) (made : ℕ → X → Y) (first : List X → ℕ → Option Y) (none : (i : ℕ) → first [] i ≡ None) (more : (x : X) (xs : List X) (i : ℕ) → first (x ∷ xs) i ≡ cond (passes x) (Some (made i x)) (first xs (suc i))) where
+  found_from : (xs : List X) (i : ℕ) → option_map (λ p. made p.0 p.1) (find (λ p. passes p.1) (enumerate_from i xs)) ≡ first xs i
+  found_from [] i = sym (none i)
+  found_from (x ∷ xs) i = map_cond (passes x) (λ p. made p.0 p.1) (i, x) _ _ (found_from xs (i + 1) ∙ ap (first xs) (add-one i)) ∙ sym (more x xs i)
+
+  found : (xs : List X) (o : Option (ℕ × Bor X)) → option_map (λ p. (p.0, p.1.now)) o ≡ find (λ p. passes p.1) (enumerate_from 0 xs) → option_map (λ p. made p.0 p.1.now) o ≡ first xs 0
+  found xs None h = ap (option_map (λ p. made p.0 p.1)) h ∙ found_from xs 0
+  found xs (Some p) h = ap (option_map (λ p. made p.0 p.1)) h ∙ found_from xs 0
+
 module _ (src text : List ℕ) where
-  pub functions_found : (fs : List Function) (i : ℕ) → option_map function_at (find (λ p. named src p.1.head.name text) (enumerate_from i fs)) ≡ find_function src fs text i
-  unfolding find_function
-  functions_found [] i = refl
-  functions_found (f ∷ fs) i = map_cond (named src f.head.name text) function_at (i, f) _ _ (functions_found fs (i + 1) ∙ ap (find_function src fs text) (add-one i))
-
-  pub variables_found : (vs : List Declarator) (i : ℕ) → option_map variable_at (find (λ p. named src p.1.name text) (enumerate_from i vs)) ≡ find_variable src vs text i
-  unfolding find_variable
-  variables_found [] i = refl
-  variables_found (v ∷ vs) i = map_cond (named src v.name text) variable_at (i, v) _ _ (variables_found vs (i + 1) ∙ ap (find_variable src vs text) (add-one i))
-
   pub function_found : (fs : List Function) (o : Option (ℕ × Bor Function)) → option_map (λ p. (p.0, p.1.now)) o ≡ find (λ p. named src p.1.head.name text) (enumerate_from 0 fs)
       → option_map (λ p. defined p.0 p.1.now) o ≡ find_function src fs text 0
-  function_found fs None h = ap (option_map function_at) h ∙ functions_found fs 0
-  function_found fs (Some p) h = ap (option_map function_at) h ∙ functions_found fs 0
+  unfolding find_function
+  function_found = found (λ f. named src f.head.name text) defined (λ fs i. find_function src fs text i) (λ i. refl) (λ f fs i. refl)
 
   pub variable_found : (vs : List Declarator) (o : Option (ℕ × Bor Declarator)) → option_map (λ p. (p.0, p.1.now)) o ≡ find (λ p. named src p.1.name text) (enumerate_from 0 vs)
-      → option_map (λ p. variable_at (p.0, p.1.now)) o ≡ find_variable src vs text 0
-  variable_found vs None h = ap (option_map variable_at) h ∙ variables_found vs 0
-  variable_found vs (Some p) h = ap (option_map variable_at) h ∙ variables_found vs 0
+      → option_map (λ p. variable p.0 p.1.now) o ≡ find_variable src vs text 0
+  unfolding find_variable
+  variable_found = found (λ v. named src v.name text) variable (λ vs i. find_variable src vs text i) (λ i. refl) (λ v vs i. refl)
 
 -- what `==` of two slices of bytes answers
 pub same_bytes : (a b : List ℕ) (r : Bool) → r ≡ pointwise ◌==◌ a b → r ≡ bytes_eq a b
