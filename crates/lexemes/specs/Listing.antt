@@ -3,7 +3,7 @@ use Rattle.std.specs.Prelude.{ℕ, suc, cond, List, [], ◌∷◌, ◌++◌, len
 use Rattle.std.specs.Char.{is_ascii_digit}
 use Rattle.refusal_line.specs.Line.{refusal_line}
 use Rattle.tokens.specs.Spelling.{Symbol, name, constant, keyword, mark, end, trouble, Item, keyword_text, mark_text, trouble_number, trouble_words}
-use Rattle.tokens.specs.Scan.{run}
+use Rattle.std.specs.List.{take_while}
 use Rattle.lexemes.specs.declared.refusal.Reason.{Reason}
 use Rattle.lexemes.specs.declared.refusal.Reason.TheVariants.{LongSource, ManyTokens, Trouble as ByTrouble}
 
@@ -23,7 +23,7 @@ reason_line source r at = refusal_line source (reason_number r) at (reason_words
 
 -- the digits that a text begins with
 unfoldable pub digits_of : List ℕ → List ℕ
-digits_of bs = take (run is_ascii_digit bs) bs
+digits_of bs = take_while is_ascii_digit bs
 
 abbrev pub kind_text : Symbol → List ℕ
 kind_text (name w) = codes "name"

@@ -14,6 +14,7 @@ pub enum Reason {
 }
 
 impl Reason {
+    // The number that the line shows.
     fn number(self) -> u8
         ensures { result ≡ reason_number self }
     {

@@ -7,7 +7,7 @@ ghost use Rattle.refusal_line.specs.Line.{refusal_line};
 use position::{Position, position_of};
 use std::alloc::{AllocError, Global};
 
-// The line for a source that is refused by the number at the offset.
+// The line for a source that is refused by the number at the offset. Words and no `Display`: tried, and the format's proof did not close.
 pub fn refusal_line(
     heap: Global,
     source: &[u8],

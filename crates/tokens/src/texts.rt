@@ -1,4 +1,4 @@
-// The spelling of keywords and marks, and the number and the words of a trouble.
+// The spelling of keywords and marks, and the number and the words of a trouble. Tables, since a derive knows only the names in the code.
 ghost use Rattle.std.specs.Prelude.{◌≡◌, Some};
 ghost use Rattle.tokens.specs.Spelling.{keyword_text, mark_text, trouble_number, trouble_words};
 

@@ -64,13 +64,6 @@ pub struct Placed<'a> {
     pub at: usize,
 }
 
-// A run of bytes that is taken as far as it goes.
-#[derive(Clone, Copy)]
-pub(crate) enum Run {
-    Word,
-    Digits,
-}
-
 // What stands at a place of the source: so many bytes to skip, a token of so many bytes, or the end or a trouble.
 #[derive(Clone, Copy)]
 pub(crate) enum Ahead<'a> {

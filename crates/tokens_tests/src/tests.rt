@@ -4,6 +4,7 @@ use position::{Position, position_of};
 use refusal_line::refusal_line;
 use std::alloc::{AllocError, Global};
 use std::test::Fail;
+use text_check::check_text;
 use tokens::{Keyword, Lexer, Mark, Placed, Token, TokenList, Trouble};
 
 fn trouble_text(trouble: Trouble) -> &'static str {
@@ -49,13 +50,6 @@ fn items_text(heap: Global, source: &[u8]) -> Result<String, AllocError> {
         text.push_str(&item_text(heap, *placed)?)?;
     }
     Ok(text)
-}
-
-fn check_text(text: &str, expected: &str, what: &str) -> Result<(), Fail> {
-    if text == expected {
-        return Ok(());
-    }
-    Err(Fail::new(format_args!("{what}: {text:?}, not {expected:?}")))
 }
 
 fn check_items(heap: Global, source: &[u8], items: &str, what: &str) -> Result<(), Fail> {
