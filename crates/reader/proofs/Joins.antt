@@ -13,7 +13,8 @@ use Rattle.reader.specs.Cursor.{left}
 use Rattle.reader.specs.Reading.{Passed}
 use Rattle.reader.specs.Terms.{Wrote, Inserted}
 use Rattle.reader.specs.Statements.{Leads, Went, Tested, flat_body}
-use Rattle.reader.proofs.Says.{takes, leaves, goes_on, passed_one}
+use Rattle.reader.proofs.Steps.{shorter}
+use Rattle.reader.proofs.Says.{takes, leaves, goes_on}
 use Rattle.reader.proofs.Writes.{rest_long, then_code, else_code, loop_code}
 
 module _ (d at n m : ℕ) {c c1 c2 : Cursor} {o o1 o2 : Code} (a : Tested d at c c1 o o1 n) (r : Went 1 (λ g. statement g (suc d)) flat_body c1 c2 o1 o2) (end : m ≡ vec_len o2.nodes) where
@@ -34,7 +35,7 @@ module _ (d at n m : ℕ) {c c1 c2 : Cursor} {o o1 o2 : Code} (a : Tested d at c
         tree = tree.if_then at a.tree r.tree;
         is = (leaves _ _ _ _ to_else h).is;
         code = then_code (vec_items o.nodes) (flat_cond a.tree) (flat_body r.tree) at n a.code r.code begins (m - n) long w.items;
-        moved = record { on = omega arith; few = j.few; fall = omega arith; spent = omega arith; grown = omega arith; cap = omega arith; functions = w.functions ∙ j.functions ∙ i.functions; formals = w.formals ∙ j.formals ∙ i.formals };
+        moved = record { on = omega arith; fall = omega arith; spent = omega arith; grown = omega arith; cap = omega arith; functions = w.functions ∙ j.functions ∙ i.functions; formals = w.formals ∙ j.formals ∙ i.formals };
       }
 
   pub chose_else : {c3 c4 : Cursor} {o3 o4 p : Code} (k l : ℕ) → is (keyword word.Else) (kind_at (left c2)) ≡ true → Passed d c2 c3 → Inserted n (node.Then (m - n + 1)) o2 o3 → k ≡ vec_len o3.nodes → Went 1 (λ g. statement g (suc d)) flat_body c3 c4 o3 o4 → l ≡ vec_len o4.nodes → Inserted k (node.Else (l - k)) o4 p → Went 2 (λ g. tests d (condition true g (suc d)) (statement g (suc d)) (otherwise d at (statement g (suc d)))) flat_stmt c c4 o p
@@ -42,7 +43,7 @@ module _ (d at n m : ℕ) {c c1 c2 : Cursor} {o o1 o2 : Code} (a : Tested d at c
       let i = a.moved in
       let j = r.moved in
       let f = s.moved in
-      let e = passed_one t in
+      let e = shorter t in
       record {
         tree = tree.if_else at a.tree r.tree s.tree;
         is = (goes_on _ _ (takes _ _ _ _ to_else h t) {i = c4} s.tree s.is s.moved.fall).is;
@@ -51,7 +52,6 @@ module _ (d at n m : ℕ) {c c1 c2 : Cursor} {o o1 o2 : Code} (a : Tested d at c
             (rest_long (vec_items o3.nodes) (flat_body s.tree) k l s.code (x ∙ o3.nodes.ok.0) (y ∙ o4.nodes.ok.0)) z.items;
         moved = record {
           on = omega arith;
-          few = f.few;
           fall = omega arith;
           spent = omega arith;
           grown = omega arith;
@@ -72,5 +72,5 @@ module _ (d at n m : ℕ) {c c1 c2 : Cursor} {o o1 o2 : Code} (a : Tested d at c
         tree = tree.while at a.tree r.tree;
         is = (goes_on _ _ (a.is (λ g. statement g (suc d)) (λ g x y. ret (tree.while at x y))) {i = c2} r.tree r.is r.moved.fall).is;
         code = loop_code (vec_items o.nodes) (flat_cond a.tree) (flat_body r.tree) at n a.code r.code begins (m - n + 1) (l - k) (ap (λ z. z + 1) long) w.items back z.items;
-        moved = record { on = omega arith; few = j.few; fall = omega arith; spent = omega arith; grown = omega arith; cap = omega arith; functions = z.functions ∙ w.functions ∙ j.functions ∙ i.functions; formals = z.formals ∙ w.formals ∙ j.formals ∙ i.formals };
+        moved = record { on = omega arith; fall = omega arith; spent = omega arith; grown = omega arith; cap = omega arith; functions = z.functions ∙ w.functions ∙ j.functions ∙ i.functions; formals = z.formals ∙ w.formals ∙ j.formals ∙ i.formals };
       }

@@ -1,3 +1,4 @@
+pub mod Exits
 pub mod Steps
 pub mod Paths
 pub mod Chains

@@ -1,6 +1,5 @@
 -- A whole source. Assumes nothing.
-use Rattle.std.proofs.Common.{◌≡◌, ℕ, suc, ◌<◌, Bool, true, List, [], ◌∷◌, length, vec_len, sym, refl, ap, ◌∙◌, arith}
-use Rattle.std.proofs.lemmas.Bool.{ltb-true}
+use Rattle.std.proofs.Common.{◌≡◌, ℕ, suc, ◌<◌, List, [], ◌∷◌, length, vec_len, sym, refl, ap, ◌∙◌, arith}
 use Rattle.script.specs.declared.types.Declarator.{Declarator}
 use Rattle.script.specs.declared.types.Function.{Function}
 use Rattle.script.specs.declared.types.Node.{Node}
@@ -8,7 +7,7 @@ use Rattle.script.specs.Tree.{Program}
 use Rattle.script.specs.Flat.{flat_program, formals_of, functions_of}
 use Rattle.tokens.specs.Spelling.{Item}
 use Rattle.tokens.specs.Scan.{lexed, lexed_by, front}
-use Rattle.grammar.specs.Tokens.{Tok, tokens_from}
+use Rattle.grammar.specs.Tokens.{tokens_from}
 use Rattle.grammar.specs.Combine.{after, many, peek, ends}
 use Rattle.grammar.specs.Parse.{program, outcome, verdict}
 use Rattle.grammar.specs.Refusals.{tokens, reads, refuses}
@@ -33,28 +32,14 @@ tokens_long : (n : ℕ) (is : List Item) → length (tokens_from n is) ≡ lengt
 tokens_long n [] = refl
 tokens_long n (i ∷ is) = ap suc (tokens_long (suc n) is)
 
-first_counted : List Tok → Bool
-first_counted [] = true
-first_counted (t ∷ ts) = t.counted
-
-counted_first : (is : List Item) → first_counted (tokens is) ≡ true
-unfolding first_counted
-counted_first [] = refl
-counted_first (i ∷ is) = refl
-
 -- a cursor at the start of a source, and code with nothing written yet
 module _ (bs : List ℕ) (c : Cursor) (at_start : left c ≡ tokens (lexed 0 bs)) where
-  few : c.taken < 2048
-  unfolding first_counted
-  few = ltb-true c.taken 2048 (ap first_counted at_start ∙ counted_first (lexed 0 bs))
-
   pub roomy : (o : Code) → vec_len o.nodes ≡ 0 → vec_len o.functions ≡ 0 → vec_len o.formals ≡ 0 → Roomy c o
   roomy o n f d =
-      let lt = few in
       let a = o.nodes_room in
       let b = o.functions_room in
       let e = o.formals_room in
-      record { few = omega arith; nodes = omega arith; formals = omega arith; functions = omega arith }
+      record { nodes = omega arith; formals = omega arith; functions = omega arith }
 
   long : length (left c) < suc (length (lexed 0 bs))
   long = let e = ap length at_start in let l = tokens_long 0 (lexed 0 bs) in omega arith

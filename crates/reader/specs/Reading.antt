@@ -9,7 +9,7 @@ use Rattle.tokens.specs.declared.types.Mark.{Mark}
 use Rattle.tokens.specs.Spelling.{item_of, mark, trouble_number}
 use Rattle.grammar.specs.Tokens.{Tok, offset, first}
 use Rattle.grammar.specs.Combine.{Why, why_bad, why_deep, why_many, out_done, out_fail, Parser, kind_at, is}
-use Rattle.grammar.specs.Parse.{number_of, is_constant, is_name, is_type, name_of, value_of, type_of}
+use Rattle.grammar.specs.Parse.{number_of, is_name, is_type, name_of, type_of}
 use Rattle.reader.specs.declared.refusal.Reason.{Reason}
 use Rattle.reader.specs.declared.refusal.Reason.TheVariants.{TooLong, Trouble, Wrong, TooDeep, TooMany}
 use Rattle.reader.specs.declared.refusal.ReadRefusal.{ReadRefusal}
@@ -55,11 +55,7 @@ abbrev pub Expects : Mark → ℕ → Cursor → Cursor → Result (Unit {0}) Re
 Expects m d c e (Ok x) = (is (mark m) (kind_at (left c)) ≡ true) × Passed d c e
 Expects m d c e (Err r) = NotExpected m d c r
 
--- the value of the constant at hand, and the range of the name at hand
-abbrev pub IsConstant : List Tok → Option ℕ → Type 0
-IsConstant ts None = is_constant (kind_at ts) ≡ false
-IsConstant ts (Some n) = (is_constant (kind_at ts) ≡ true) × (n ≡ value_of (first ts))
-
+-- the range of the name at hand
 abbrev pub IsName : Cursor → Option Name → Type 0
 IsName c None = is_name (kind_at (left c)) ≡ false
 IsName c (Some x) = (is_name (kind_at (left c)) ≡ true) × (x ≡ name_of (item_of c.here))
@@ -72,7 +68,6 @@ IsType ts (Some t) = (is_type (kind_at ts) ≡ true) × (t ≡ type_of (first ts
 -- reading went on from the cursor c and the code o to e and p: at most two nodes were written for each token that was passed, and k more
 pub record Moved (k : ℕ) (c e : Cursor) (o p : Code) : Type 0 where
   pub on : c.taken ≤ e.taken
-  pub few : e.taken ≤ 2048
   pub fall : length (left e) ≤ length (left c)
   pub spent : vec_len p.nodes + 2 * (2048 - e.taken) ≤ vec_len o.nodes + 2 * (2048 - c.taken) + k
   pub grown : vec_len o.nodes ≤ vec_len p.nodes
@@ -81,9 +76,8 @@ pub record Moved (k : ℕ) (c e : Cursor) (o p : Code) : Type 0 where
   pub formals : p.formals ≡ o.formals
 
 -- there is room for two nodes a token that may still be passed, and for k more
-pub record Spare (k : ℕ) (c : Cursor) (o : Code) : Type 0 where
-  pub few : c.taken ≤ 2048
-  pub room : vec_len o.nodes + 2 * (2048 - c.taken) + k ≤ vec_capacity o.nodes
+abbrev pub Spare : ℕ → Cursor → Code → Type 0
+Spare k c o = vec_len o.nodes + 2 * (2048 - c.taken) + k ≤ vec_capacity o.nodes
 
 -- from c to e a tree was read by f, and its code was written; g is any gas that is enough
 pub record Read {X : Type 0} (f : ℕ → Parser X) (code_of : X → List Node) (c e : Cursor) (o p : Code) : Type 0 where

@@ -22,7 +22,6 @@ pub record Leads {X : Type 0} (k : ℕ) (f : ℕ → Parser X) (c : Cursor) (h :
 pub record Declared (f : Parser Declarator) (c e : Cursor) (x : Declarator) : Type 0 where
   pub is : f (left c) ≡ out_done x (left e)
   pub on : c.taken + 2 ≤ e.taken
-  pub few : e.taken ≤ 2048
   pub fall : length (left e) + 2 ≤ length (left c)
 
 abbrev pub Declares : Parser Declarator → Cursor → Cursor → Result Declarator ReadRefusal → Type 0

@@ -12,7 +12,7 @@ use crate::code::Code;
 use crate::cursor::Cursor;
 use crate::refusal::ReadRefusal;
 use script::Node;
-use tokens::{Keyword, Mark};
+use tokens::{Keyword, Mark, Token};
 
 impl Code {
     #[cycle(blocks)]
@@ -20,36 +20,38 @@ impl Code {
         requires { Spare 0 cursor.old self.old }
         ensures { States (λ g. statement-at g depth) flat_stmt cursor.old cursor.new self.old self.new result }
     {
-        let at = cursor.here.at;
         if let Some(name) = cursor.name() {
             cursor.take(depth)?;
             return self.assignment(cursor, depth, name);
         }
-        if cursor.at_keyword(Keyword::If) {
-            cursor.take(depth)?;
-            return self.choice(cursor, depth, at);
+        let at = cursor.here.at;
+        match cursor.here.token {
+            Token::Keyword(Keyword::If) => {
+                cursor.take(depth)?;
+                self.choice(cursor, depth, at)
+            }
+            Token::Keyword(Keyword::While) => {
+                cursor.take(depth)?;
+                self.repetition(cursor, depth, at)
+            }
+            Token::Keyword(Keyword::Free) => {
+                cursor.take(depth)?;
+                self.ended(cursor, depth, at, Node::Free)
+            }
+            Token::Keyword(Keyword::Print) => {
+                cursor.take(depth)?;
+                self.ended(cursor, depth, at, Node::Print)
+            }
+            Token::Keyword(Keyword::Return) => {
+                cursor.take(depth)?;
+                self.ended(cursor, depth, at, Node::Return)
+            }
+            Token::Mark(Mark::LeftBrace) => {
+                cursor.take(depth)?;
+                self.block(cursor, depth, at)
+            }
+            _ => self.declaration(cursor, depth),
         }
-        if cursor.at_keyword(Keyword::While) {
-            cursor.take(depth)?;
-            return self.repetition(cursor, depth, at);
-        }
-        if cursor.at_keyword(Keyword::Free) {
-            cursor.take(depth)?;
-            return self.ended(cursor, depth, at, Node::Free);
-        }
-        if cursor.at_keyword(Keyword::Print) {
-            cursor.take(depth)?;
-            return self.ended(cursor, depth, at, Node::Print);
-        }
-        if cursor.at_keyword(Keyword::Return) {
-            cursor.take(depth)?;
-            return self.ended(cursor, depth, at, Node::Return);
-        }
-        if cursor.at_mark(Mark::LeftBrace) {
-            cursor.take(depth)?;
-            return self.block(cursor, depth, at);
-        }
-        self.declaration(cursor, depth)
     }
 
     // An if, after its keyword. What it skips is written once its length is known.

@@ -3,7 +3,7 @@ ghost use Rattle.std.specs.Prelude.{◌≡◌, ◌<◌, true};
 ghost use Rattle.tokens.specs.Spelling.{mark as sign, keyword as word};
 ghost use Rattle.grammar.specs.Combine.{why_bad, kind_at, is};
 ghost use Rattle.reader.specs.Cursor.{left};
-ghost use Rattle.reader.specs.Reading.{Refusal, Passes, Expects, IsConstant, IsName};
+ghost use Rattle.reader.specs.Reading.{Refusal, Passes, Expects, IsName};
 
 use crate::cursor::Cursor;
 use crate::refusal::{ReadRefusal, Reason};
@@ -58,16 +58,6 @@ impl<'a> Cursor<'a> {
         ensures token { result ≡ true → 1 < kind_at (left self.now) }
     {
         matches!(self.here.token, Token::Keyword(here) if here == keyword)
-    }
-
-    // The value of the constant at hand, if it is one.
-    pub(crate) fn constant(&self) -> Option<u64>
-        ensures { IsConstant (left self.now) result }
-    {
-        match self.here.token {
-            Token::Constant(n) => Some(n),
-            _ => None,
-        }
     }
 
     // The range of the name at hand, if it is one.

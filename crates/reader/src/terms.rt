@@ -11,7 +11,7 @@ use crate::code::{Code, Thing};
 use crate::cursor::Cursor;
 use crate::refusal::ReadRefusal;
 use script::{Name, Node};
-use tokens::{Keyword, Mark};
+use tokens::{Keyword, Mark, Token};
 
 // One deeper; no token may stand beyond 64, so that there is no need to count on.
 fn deeper(depth: usize) -> usize
@@ -22,6 +22,7 @@ fn deeper(depth: usize) -> usize
 
 impl Code {
     // An expression.
+    #[tactic(auto, using(crate::proofs::Operands::refused_whole, crate::proofs::Operands::read_whole))]
     pub(crate) fn expression(
         &mut self,
         cursor: &mut Cursor,
@@ -35,6 +36,7 @@ impl Code {
     }
 
     // A condition.
+    #[tactic(auto, using(crate::proofs::Operands::refused_whole, crate::proofs::Operands::read_whole))]
     pub(crate) fn condition(&mut self, cursor: &mut Cursor, depth: usize) -> Result<(), ReadRefusal>
         requires { Spare 0 cursor.old self.old }
         ensures { Reads (λ g. condition true g depth) flat_cond cursor.old cursor.new self.old self.new result }
@@ -142,34 +144,36 @@ impl Code {
         requires { Spare 0 cursor.old self.old }
         ensures { Gives 0 (λ g. operands merged g depth) (flat_got merged) (got_is merged) cursor.old cursor.new self.old self.new result }
     {
-        let at = cursor.here.at;
-        if let Some(value) = cursor.constant() {
-            cursor.take(depth)?;
-            self.push(Node::Constant { at, value });
-            return Ok(Thing::Expression);
-        }
         if let Some(name) = cursor.name() {
             cursor.take(depth)?;
             self.named(cursor, depth, name)?;
             return Ok(Thing::Expression);
         }
-        if cursor.at_keyword(Keyword::Nil) {
-            cursor.take(depth)?;
-            self.push(Node::Nil { at });
-            return Ok(Thing::Expression);
+        let at = cursor.here.at;
+        match cursor.here.token {
+            Token::Constant(value) => {
+                cursor.take(depth)?;
+                self.push(Node::Constant { at, value });
+                Ok(Thing::Expression)
+            }
+            Token::Keyword(Keyword::Nil) => {
+                cursor.take(depth)?;
+                self.push(Node::Nil { at });
+                Ok(Thing::Expression)
+            }
+            Token::Mark(Mark::Minus) => {
+                cursor.take(depth)?;
+                self.push(Node::Begin { at });
+                self.operand(cursor, depth + 1, false)?;
+                self.push(Node::Negate { at });
+                Ok(Thing::Expression)
+            }
+            Token::Mark(Mark::LeftParen) => {
+                cursor.take(depth)?;
+                self.bracket(cursor, depth, merged, at)
+            }
+            _ => Err(cursor.wrong()),
         }
-        if cursor.at_mark(Mark::Minus) {
-            cursor.take(depth)?;
-            self.push(Node::Begin { at });
-            self.operand(cursor, depth + 1, false)?;
-            self.push(Node::Negate { at });
-            return Ok(Thing::Expression);
-        }
-        if !cursor.at_mark(Mark::LeftParen) {
-            return Err(cursor.wrong());
-        }
-        cursor.take(depth)?;
-        self.bracket(cursor, depth, merged, at)
     }
 
     // A chain of binary operators, or an operand.
