@@ -3,6 +3,7 @@ use reader::{ReadRefusal, ReadScript};
 use script::{Comparison, Name, Node, Operator};
 use std::alloc::{AllocError, Global};
 use std::test::Fail;
+use text_check::check_text;
 
 // The words of operators and comparisons here are the tests' own, beside what they expect.
 fn operator_text(operator: Operator) -> &'static str {
@@ -94,14 +95,6 @@ fn read_text(heap: Global, source: &[u8]) -> Result<String, AllocError> {
         Ok(()) => code_text(heap, &script),
         Err(refusal) => refusal_text(heap, refusal),
     }
-}
-
-// The same six lines stand in the tests of tokens: a library for them alone would be no shorter.
-fn check_text(text: &str, expected: &str, what: &str) -> Result<(), Fail> {
-    if text == expected {
-        return Ok(());
-    }
-    Err(Fail::new(format_args!("{what}: {text:?}, not {expected:?}")))
 }
 
 fn check_read(heap: Global, source: &[u8], words: &str, what: &str) -> Result<(), Fail> {
