@@ -256,7 +256,7 @@ fn refusals(rt: HostRuntime) -> Result<(), Fail> {
     check_read(heap, b"int f() { \xff", "2 at 10", "a byte above 127")
 }
 
-// A body: what it begins with, so many times the front, the middle, and so many times the back.
+// A body: what it begins with, so many times the front, the middle, and so many times the back. No struct: each row of the tables would be longer.
 fn nested(
     heap: Global,
     begin: &str,

@@ -76,7 +76,7 @@ pub struct LeastFault {
     pub found: Option<CheckRefusal>,
 }
 
-// A source and the table of its functions, their formals one after the other.
+// A source and the table of its functions, their formals one after the other. No `impl Model`: it is `Copy`, and the view `ctx_of` has no inverse.
 #[derive(Clone, Copy)]
 pub struct Table<'s> {
     pub source: &'s [u8],
