@@ -70,10 +70,10 @@ module _ (must : Bool) (d : ℕ) {from : ℕ} {c : Cursor} {o : Code} where
 
 pub compared_wrong : (must : Bool) (d from : ℕ) {c : Cursor} {o : Code} {r : ReadRefusal} → must ≡ true → compares (kind_at (left c)) ≡ false → Refusal (left c) why_bad r → Halts {Y = Found must} (λ g x. tested must d (expression g d) (thing_expr x)) flat from c o r
 compared_wrong true d from {c} m h t = record { rest = left c; why = why_bad; is = λ x front e k g l. on_other d c _ _ _ h; told = t }
-compared_wrong false d from {c} m h t = absurd (let z : ◌≡◌ {A = ℕ} 0 1 = cc in omega arith)
+compared_wrong false d from {c} m h t = cc
 
 pub compared_none : (must : Bool) (d from : ℕ) {c : Cursor} {o : Code} → must ≡ false → compares (kind_at (left c)) ≡ false → Followed (λ g x. tested must d (expression g d) (thing_expr x)) flat (flat_found must) (λ t. Expression ≡ found_is must t) from c c o o
-compared_none true d from {c} m h = absurd (let z : ◌≡◌ {A = ℕ} 0 1 = cc in omega arith)
+compared_none true d from {c} m h = cc
 compared_none false d from {c} m h = record { moved = stay; onto = λ x front e k. record { tree = thing_expr x; is = λ g l. on_other d c _ _ _ h; code = e; thing = refl } }
 
 -- a negation

@@ -13,7 +13,7 @@ use Rattle.reader.specs.Cursor.{left}
 use Rattle.reader.specs.Reading.{Passed}
 use Rattle.reader.specs.Terms.{Wrote, Inserted}
 use Rattle.reader.specs.Statements.{Leads, Went, Tested, flat_body}
-use Rattle.reader.proofs.Steps.{shorter}
+use Rattle.reader.proofs.Paths.{moves, and, pass, inserts, moved_by}
 use Rattle.reader.proofs.Says.{takes, leaves, goes_on}
 use Rattle.reader.proofs.Writes.{rest_long, then_code, else_code, loop_code}
 
@@ -29,36 +29,22 @@ module _ (d at n m : ℕ) {c c1 c2 : Cursor} {o o1 o2 : Code} (a : Tested d at c
 
   pub chose_then : {p : Code} → is (keyword word.Else) (kind_at (left c2)) ≡ false → Inserted n (node.Then (m - n)) o2 p → Went 2 (λ g. tests d (condition true g (suc d)) (statement g (suc d)) (otherwise d at (statement g (suc d)))) flat_stmt c c2 o p
   chose_then {p} h w =
-      let i = a.moved in
-      let j = r.moved in
       record {
         tree = tree.if_then at a.tree r.tree;
         is = (leaves _ _ _ _ to_else h).is;
         code = then_code (vec_items o.nodes) (flat_cond a.tree) (flat_body r.tree) at n a.code r.code begins (m - n) long w.items;
-        moved = record { on = omega arith; fall = omega arith; spent = omega arith; grown = omega arith; cap = omega arith; functions = w.functions ∙ j.functions ∙ i.functions; formals = w.formals ∙ j.formals ∙ i.formals };
+        moved = moved_by (and (moves a.moved) (and (moves r.moved) (inserts w))) (omega arith);
       }
 
   pub chose_else : {c3 c4 : Cursor} {o3 o4 p : Code} (k l : ℕ) → is (keyword word.Else) (kind_at (left c2)) ≡ true → Passed d c2 c3 → Inserted n (node.Then (m - n + 1)) o2 o3 → k ≡ vec_len o3.nodes → Went 1 (λ g. statement g (suc d)) flat_body c3 c4 o3 o4 → l ≡ vec_len o4.nodes → Inserted k (node.Else (l - k)) o4 p → Went 2 (λ g. tests d (condition true g (suc d)) (statement g (suc d)) (otherwise d at (statement g (suc d)))) flat_stmt c c4 o p
   chose_else {c3} {c4} {o3} {o4} {p} k l h t w x s y z =
-      let i = a.moved in
-      let j = r.moved in
-      let f = s.moved in
-      let e = shorter t in
       record {
         tree = tree.if_else at a.tree r.tree s.tree;
         is = (goes_on _ _ (takes _ _ _ _ to_else h t) {i = c4} s.tree s.is s.moved.fall).is;
         code =
             else_code (vec_items o.nodes) (flat_cond a.tree) (flat_body r.tree) at n a.code r.code begins (m - n) k (l - k) (flat_body s.tree) long w.items s.code (x ∙ o3.nodes.ok.0)
             (rest_long (vec_items o3.nodes) (flat_body s.tree) k l s.code (x ∙ o3.nodes.ok.0) (y ∙ o4.nodes.ok.0)) z.items;
-        moved = record {
-          on = omega arith;
-          fall = omega arith;
-          spent = omega arith;
-          grown = omega arith;
-          cap = omega arith;
-          functions = z.functions ∙ f.functions ∙ w.functions ∙ j.functions ∙ i.functions;
-          formals = z.formals ∙ f.formals ∙ w.formals ∙ j.formals ∙ i.formals;
-        };
+        moved = moved_by (and (moves a.moved) (and (moves r.moved) (and (pass t) (and (inserts w) (and (moves s.moved) (inserts z)))))) (omega arith);
       }
 
   pub repeated : {o3 p : Code} (k l : ℕ) → k ≡ vec_len o.nodes → Inserted n (node.Loop (m - n + 1)) o2 o3 → l ≡ vec_len o3.nodes → Wrote (node.Back (l - k)) o3 p → Went 2 (λ g. tests d (condition true g (suc d)) (statement g (suc d)) (λ x y. ret (tree.while at x y))) flat_stmt c c2 o p

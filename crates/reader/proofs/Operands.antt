@@ -77,10 +77,10 @@ module _ (d : ℕ) (x : Name) {c : Cursor} where
 -- what stands in parentheses
 pub inside_merged : (m : Bool) (d : ℕ) (c e : Cursor) (o p : Code) (r : Result Thing ReadRefusal) → m ≡ true → Gives 0 (λ g. conditions false 2 g d) (flat_found false) (found_is false) c e o p r → Gives 0 (λ g. inside m (suc g) d) (flat_got m) (got_is m) c e o p r
 inside_merged true d c e o p r h k = k
-inside_merged false d c e o p r h k = absurd (let z : ◌≡◌ {A = ℕ} 0 1 = cc in omega arith)
+inside_merged false d c e o p r h k = cc
 
 pub inside_plain : (m : Bool) (d : ℕ) (c e : Cursor) (o p : Code) (r : Result Thing ReadRefusal) → m ≡ false → Gives 0 (λ g. expression (suc g) d) (flat_got false) (got_is false) c e o p r → Gives 0 (λ g. inside m (suc g) d) (flat_got m) (got_is m) c e o p r
-inside_plain true d c e o p r h k = absurd (let z : ◌≡◌ {A = ℕ} 0 1 = cc in omega arith)
+inside_plain true d c e o p r h k = cc
 inside_plain false d c e o p r h k = k
 
 -- a cast, after its opening parenthesis at this offset

@@ -1,5 +1,5 @@
 -- A whole source. Assumes nothing.
-use Rattle.std.proofs.Common.{◌≡◌, ℕ, suc, ◌<◌, List, [], ◌∷◌, length, vec_len, sym, refl, ap, ◌∙◌, arith}
+use Rattle.std.proofs.Common.{◌≡◌, ℕ, suc, ◌<◌, List, [], ◌∷◌, length, sym, refl, ap, ◌∙◌, arith}
 use Rattle.script.specs.declared.types.Declarator.{Declarator}
 use Rattle.script.specs.declared.types.Function.{Function}
 use Rattle.script.specs.declared.types.Node.{Node}
@@ -19,7 +19,7 @@ use Rattle.reader.specs.declared.cursor.Cursor.{Cursor}
 use Rattle.reader.specs.declared.code.Code.{Code}
 use Rattle.reader.specs.Cursor.{left}
 use Rattle.reader.specs.Reading.{Refused, reason_number}
-use Rattle.reader.specs.Functions.{Roomy, WholeProgram}
+use Rattle.reader.specs.Functions.{WholeProgram}
 use Rattle.reader.specs.Whole.{is_reads, is_read, program_of, code_of, functions_in, formals_in, IsScript}
 use Rattle.reader.specs.Script.{Derived, First}
 
@@ -34,13 +34,6 @@ tokens_long n (i ∷ is) = ap suc (tokens_long (suc n) is)
 
 -- a cursor at the start of a source, and code with nothing written yet
 module _ (bs : List ℕ) (c : Cursor) (at_start : left c ≡ tokens (lexed 0 bs)) where
-  pub roomy : (o : Code) → vec_len o.nodes ≡ 0 → vec_len o.functions ≡ 0 → vec_len o.formals ≡ 0 → Roomy c o
-  roomy o n f d =
-      let a = o.nodes_room in
-      let b = o.functions_room in
-      let e = o.formals_room in
-      record { nodes = omega arith; formals = omega arith; functions = omega arith }
-
   long : length (left c) < suc (length (lexed 0 bs))
   long = let e = ap length at_start in let l = tokens_long 0 (lexed 0 bs) in omega arith
 
@@ -84,7 +77,7 @@ means bs p e = record {
 
 -- a reading is no refusal
 reads_apart : (p : Program) (at n : ℕ) → reads p ≡ refuses at n → ⊥
-reads_apart p at n e = let z : ◌≡◌ {A = ℕ} 0 1 = cc in omega arith
+reads_apart p at n e = cc
 
 pub first_refusal_lem : (bs : List ℕ) (at n : ℕ) → outcome (lexed 0 bs) ≡ refuses at n → First bs at n
 first_refusal_lem bs at n e = record {

@@ -95,6 +95,7 @@ abbrev pub joining_on : ℕ → ℕ → ℕ → ℕ → Cond → Parser Cond
 joining_on d n g h = loop d (joins n) (joined (condition_by true d g (negation true g d) (negation true g d) (n - 1))) h
 
 -- from c to e a tree was read by f, and its code was written, in k nodes more than two a token
+-- (Statements says the same of a gas above the number of tokens left: made one, either would be read at a predecessor, which is no plainer)
 pub record Went {X : Type 0} (k : ℕ) (f : ℕ → Parser X) (code_of : X → List Node) (c e : Cursor) (o p : Code) : Type 0 where
   pub tree : X
   pub is : (g : ℕ) → length (left c) ≤ g → f g (left c) ≡ out_done tree (left e)

@@ -3,8 +3,7 @@ ghost use Rattle.std.specs.Prelude.{◌≤◌, vec_capacity};
 
 use script::{Declarator, Function, Node};
 
-// A cursor goes beside it through all readers, and the room that is left for the tokens to come is in their contracts: no struct
-// holds both, since the cursor borrows the source that is read, and the code belongs to the script, which outlives the reading.
+// Readers take a cursor beside it, and say what room both leave: the cursor borrows the source, and the script, whose code this is, outlives that.
 #[derive(Drop)]
 pub(crate) struct Code {
     pub(crate) nodes: Vec<Node>,

@@ -76,10 +76,8 @@ impl ReadScript {
             self.code.clear();
             return Err(refusal);
         }
-        match self.source.extend_from_slice(source) {
-            Ok(()) => Ok(()),
-            Err(_) => unreachable(),
-        }
+        self.source.extend_from_slice(source).unwrap();
+        Ok(())
     }
 
     pub fn source(&self) -> &[u8]

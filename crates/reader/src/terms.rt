@@ -109,6 +109,7 @@ impl Code {
     }
 
     // A cast or a group, after its opening parenthesis.
+    // `depth ≤ 64` is in five contracts, since a token was passed there: a type for it would be taken apart again at each mark that is wanted at `depth`.
     #[cycle(terms)]
     fn bracket(
         &mut self,

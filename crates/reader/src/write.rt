@@ -13,15 +13,12 @@ impl Code {
         self.nodes.push_reserved(node);
     }
 
-    // Writes a node before the node `i`.
+    // Writes a node before the node `i`: a place in code that grows is a number, since a slice from it would borrow the code.
     pub(crate) fn insert(&mut self, i: usize, node: Node)
         requires within { i ≤ vec_len self.old.nodes }
         requires room { vec_len self.old.nodes < vec_capacity self.old.nodes }
         ensures { Inserted i node self.old self.new }
     {
-        match self.nodes.insert(i, node) {
-            Ok(()) => {}
-            Err(_) => unreachable(),
-        }
+        self.nodes.insert(i, node).unwrap();
     }
 }
