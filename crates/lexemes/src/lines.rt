@@ -27,6 +27,7 @@ fn digits_of(text: &[u8]) -> &[u8]
     &text[..len]
 }
 
+// The listing's words, which no derive knows.
 fn kind_of(token: Token) -> &'static str
     ensures { result.now ≡ kind_text (symbol_of token.entry) }
 {
@@ -70,7 +71,7 @@ fn reason_at(index: usize, token: Token) -> Option<Reason>
     }
 }
 
-// The listing of a source, as far as it is written.
+// The listing of a source, as far as it is written. Bytes and no `String`: a name stands in it as the source spells it.
 #[derive(Drop)]
 struct Draft<'a> {
     heap: Global,

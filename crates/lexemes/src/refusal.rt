@@ -14,7 +14,7 @@ pub enum Reason {
 }
 
 impl Reason {
-    // The number that the line shows.
+    // The number that the line shows. No discriminant, since a trouble has a number of its own.
     fn number(self) -> u8
         ensures { result ≡ reason_number self }
     {
@@ -25,6 +25,7 @@ impl Reason {
         }
     }
 
+    // Words and no `Display`, as `refusal_line` takes them.
     fn words(self) -> &'static str
         ensures { result.now ≡ reason_words self }
     {

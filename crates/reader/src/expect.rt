@@ -46,11 +46,12 @@ impl<'a> Cursor<'a> {
         Ok(())
     }
 
+    // For marks and for keywords: one function of both would compare tokens, and so the bytes of names.
     pub(crate) fn at_mark(&self, mark: Mark) -> bool
         ensures value { result ≡ is (sign mark) (kind_at (left self.now)) }
         ensures token { result ≡ true → 1 < kind_at (left self.now) }
     {
-        matches!(self.here.token, Token::Mark(here) if here == mark)
+        self.here.token.is_mark(mark)
     }
 
     pub(crate) fn at_keyword(&self, keyword: Keyword) -> bool

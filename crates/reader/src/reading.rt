@@ -11,7 +11,7 @@ use script::{Declarator, Function, Node};
 use std::alloc::{AllocError, Global};
 
 impl ReadRefusal {
-    // The number of the refusal.
+    // The number of the refusal. No discriminant, since a trouble has a number of its own.
     pub fn number(self) -> u8
         ensures { result ≡ reason_number self.reason }
     {

@@ -91,7 +91,7 @@ impl Code {
         Ok(())
     }
 
-    // What stands in parentheses.
+    // What stands in parentheses. `merged`, here and below, says that it may be a condition too, and `must` that it has to be one: the grammar's own arguments.
     #[cycle(terms)]
     fn inside(
         &mut self,

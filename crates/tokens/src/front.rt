@@ -95,7 +95,7 @@ impl<'a> Begun<'a> {
         }
     }
 
-    // What begins with a first byte of the class.
+    // What begins with a first byte of the class. No table of functions: each class has its own arguments.
     pub(crate) fn front_by(&self, class: Class) -> Ahead<'a>
         ensures { front_of result ≡ front_by class self.now.first self.now.after.now }
     {

@@ -55,7 +55,7 @@ impl Mark {
 }
 
 impl Trouble {
-    // The number of the refusal that the trouble is.
+    // The number of the refusal that the trouble is: two troubles share one, so that it is no discriminant.
     pub fn number(self) -> u8
         ensures { result ≡ trouble_number self }
     {

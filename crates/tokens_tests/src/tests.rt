@@ -7,6 +7,7 @@ use std::test::Fail;
 use text_check::check_text;
 use tokens::{Keyword, Lexer, Mark, Placed, Token, TokenList, Trouble};
 
+// The words of troubles and items here are the tests' own, beside what they expect.
 fn trouble_text(trouble: Trouble) -> &'static str {
     match trouble {
         Trouble::NoToken => "no token",
@@ -17,10 +18,7 @@ fn trouble_text(trouble: Trouble) -> &'static str {
 
 // The bytes of a token are ASCII, so that the replacement is never seen.
 fn spelled(bytes: &[u8]) -> &str {
-    match std::str::from_utf8(bytes) {
-        Ok(text) => text,
-        Err(_) => "?",
-    }
+    std::str::from_utf8(bytes).unwrap_or("?")
 }
 
 fn labelled(heap: Global, kind: &str, word: &str, at: usize) -> Result<String, AllocError> {
