@@ -12,7 +12,7 @@ pub(crate) enum Binding {
     Dot,
 }
 
-// A chain of conditions: of `&&`, or of `||` of such chains.
+// A chain of conditions: of `&&`, or of `||` of such chains. No trait for both enums: it would have two ranks and one method.
 #[derive(Clone, Copy, PartialEq, Eq)]
 pub(crate) enum Join {
     And,

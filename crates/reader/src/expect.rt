@@ -46,7 +46,8 @@ impl<'a> Cursor<'a> {
         Ok(())
     }
 
-    // For marks and for keywords: one function of both would compare tokens, and so the bytes of names.
+    // For marks and for keywords: one function of both would compare tokens, and so the bytes of names. `token` is said of each
+    // test, `joins` too, so that `take` after it needs no lemma.
     pub(crate) fn at_mark(&self, mark: Mark) -> bool
         ensures value { result ≡ is (sign mark) (kind_at (left self.now)) }
         ensures token { result ≡ true → 1 < kind_at (left self.now) }
