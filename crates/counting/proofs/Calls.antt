@@ -1,25 +1,27 @@
 -- What each call of a counting heap does to the model. Assumes nothing.
-use Rattle.std.proofs.Common.{◌≡◌, ℕ, ◌+◌, ◌-◌, ◌<◌, true, false, not, ◌&&◌, eqb, ltb, List, [], ◌∷◌, map, length, get_or, set, Some, None, Ok, Err, sym, refl, ap, ◌∙◌, arith}
+use Rattle.std.proofs.Common.{◌≡◌, ℕ, ◌+◌, ◌-◌, ◌<◌, true, false, not, ◌&&◌, eqb, ltb, List, [], ◌∷◌, map, length, get_or, set, Some, None, Ok, Err, Option, subst, sym, refl, ap, ◌∙◌, arith}
 use lib.ListN.{length-map}
 use lib.Seq.{map-set}
+use Rattle.std.specs.Option.{ok_or}
 use Rattle.std.proofs.lemmas.Bool.{lt-ltb, ne_eqb}
 use Rattle.heap.specs.declared.types.Address.{Address}
 use Rattle.heap.specs.declared.types.Side.{Side}
 use Rattle.heap.specs.declared.types.Value.{Value}
+use Rattle.heap.specs.declared.types.HeapRefusal.{HeapRefusal}
 use Rattle.heap.specs.declared.types.HeapRefusal.TheVariants.{NotTaken, NoHold, TooManyHolds, KindChange, Full}
 use Rattle.heap.specs.Model as model
 use Rattle.heap.specs.Model.{taken, Model, room_at, slot_of, written, less_held, holds_of, taken_at, is_taken, held_at, names_only, same_kind, all_taken, freed, refuse, answer, after, Holds, hold_refusal, hold_done, LetsGo, let_go_refusal, let_go_done, Puts, put_refusal, put_done, Makes}
-use Rattle.heap.proofs.Places.{not_all_taken}
+use Rattle.heap.proofs.RoomAt.{not_all_taken}
 use Rattle.counting.specs.declared.cell.Cell.{Cell}
 use Rattle.counting.specs.declared.cell.Cell.TheVariants.{Free, Taken, Dying}
 use Rattle.counting.specs.declared.cell.Pair.{Pair}
 use Rattle.counting.specs.Rule.{dead_in_turn, counting_rule, Settles}
 use Rattle.counting.specs.Chain.{links, Linked}
 use Rattle.counting.specs.Cells.{room_of, rooms, next_free, Sound}
-use Rattle.counting.specs.Work.{with_holds}
-use Rattle.counting.specs.Settle.{one_result, rule_settles}
-use Rattle.counting.specs.ChainLemmas.{ends}
-use Rattle.counting.specs.Seen.{free_room, free_within}
+use Rattle.counting.specs.Work.{with_holds, Finds, Sees}
+use Rattle.counting.proofs.Settle.{one_result, rule_settles}
+use Rattle.counting.proofs.Chains.{ends}
+use Rattle.counting.proofs.Seen.{free_room, free_within}
 
 -- however a model settled, the rule settles it so
 by_rule : {m n : Model} → Settles m n → n ≡ freed (dead_in_turn (length m) m) m
@@ -52,6 +54,18 @@ holds_done xs ys p x is few e =
       answers = sym (ap (λ o. answer o tt) n);
       leaves = ap rooms e ∙ map-set room_of xs p.at (with_holds x (x.holds + 1)) ∙ ap (λ y. set c p.at (model.with_holds y (holds_of y + 1))) is ∙ sym (ap (λ o. after o c (hold_done c p.at)) n);
     }
+
+-- an option that was asked for as an answer
+pub some_of : {X E : Type 0} {x : X} (e : E) (o : Option X) → Ok x ≡ ok_or o e → o ≡ Some x
+some_of e None is = cc
+some_of e (Some y) is = cc
+
+pub none_of : {X E : Type 0} {d : E} (e : E) (o : Option X) → Err d ≡ ok_or o e → o ≡ None
+none_of e None is = refl
+none_of e (Some y) is = cc
+
+pub seen : (xs : List Cell) (p : ℕ) {x : Pair} (e : HeapRefusal) (o : Option Pair) → Finds xs p o → Ok x ≡ ok_or o e → Sees xs p x
+seen xs p e o h is = subst (Finds xs p) (some_of e o is) h
 
 all_taken_lem : (xs : List Cell) → links (map next_free xs) ≡ 0 → all_taken (rooms xs) ≡ true
 all_taken_lem [] e = refl

@@ -14,10 +14,11 @@ use Rattle.heap.specs.declared.types.HeapRefusal.TheVariants.{NoHold}
 use Rattle.heap.specs.Model.{free, taken, Model, all_free, room_at, slot_of, held_at, taken_at, is_taken, holds_of, with_holds, freed, names_only, refuse, MakesBy, after, hold_refusal, hold_done, let_go_refusal}
 use Rattle.heap.specs.Counts.{room_names, count}
 use Rattle.heap.specs.Trace.{Event, Does, by_make, by_hold, by_let_go, by_look, by_put, Trace, done, next}
-use Rattle.heap.proofs.Places.{clash, no_slot, slot_taken, not_taken, same_room, other_room, freed_room, all_free_lem, holds_leave, holds_slot, holds_taken, held_named, after_both}
+use Rattle.heap.proofs.RoomAt.{slot_taken, not_taken, same_room, other_room, freed_room, all_free_lem, holds_leave, holds_slot, holds_taken, held_named, after_both}
 use Rattle.heap.proofs.Counted.{count_set, holds_count, uncounted, namer}
+use Rattle.counting.specs.Laws.{Dead, dead_parts, Round, one, round}
 use Rattle.counting.specs.Rule.{dead, last_dead, dead_in_turn, counting_rule, is_put, no_put, Drains}
-use Rattle.counting.specs.Settle.{Dead, dead_parts, quiet_by, loud, Round, one, round, rule_settles}
+use Rattle.counting.proofs.Settle.{quiet_by, loud, rule_settles}
 
 record Aged (c : Model) : Type 0 where
   age : ℕ → ℕ
@@ -35,7 +36,7 @@ aged_one : {c : Model} {q : ℕ} → Aged c → Dead c q → Aged (set c q free)
 aged_one {c} {q} a d = record { age = a.age; clock = a.clock; young = a.young; older = λ p s k is. at p s k is (cases_eq p q) }
   where
     at : (p : ℕ) (s : Side) (k : Address) → slot_of (room_at (set c q free) p) s ≡ At k → (p ≡ q) ⊎ (p ≡ q → ⊥) → (taken_at (set c q free) k.at ≡ true) × (a.age k.at < a.age p)
-    at p s k is (inl e) = no_slot s k (ap (λ x. slot_of x s) (sym (freed_room c q) ∙ ap (room_at (set c q free)) (sym e)) ∙ is)
+    at p s k is (inl e) = cc (ap (λ x. slot_of x s) (sym (freed_room c q) ∙ ap (room_at (set c q free)) (sym e)) ∙ is)
     at p s k is (inr ne) =
         let w : slot_of (room_at c p) s ≡ At k = ap (λ x. slot_of x s) (sym (other_room c q p free ne)) ∙ is in
         let o = a.older p s k w in
@@ -81,7 +82,7 @@ module _ (c : Model) (l r : Value) (p : ℕ) (hl : names_only (held_at c) l ≡ 
   new_room = same_room c p (taken l r 1) w
 
   not_new : (j : ℕ) → taken_at c j ≡ true → j ≡ p → ⊥
-  not_new j t e = clash (sym t ∙ ap (taken_at c) e ∙ ap is_taken was)
+  not_new j t e = cc (sym t ∙ ap (taken_at c) e ∙ ap is_taken was)
 
   still_taken : (j : ℕ) → taken_at c j ≡ true → taken_at (set c p (taken l r 1)) j ≡ true
   still_taken j t = ap is_taken (other_room c p j (taken l r 1) (not_new j t)) ∙ t
@@ -111,7 +112,7 @@ module _ (c : Model) (l r : Value) (p : ℕ) (hl : names_only (held_at c) l ≡ 
   quiet_made f j = quiet_by (set c p (taken l r 1)) j (λ d. at d (cases_eq j p))
     where
       at : Dead (set c p (taken l r 1)) j → (j ≡ p) ⊎ (j ≡ p → ⊥) → ⊥
-      at d (inl e) = clash (sym (ap (held_at (set c p (taken l r 1))) e ∙ ap (λ x. ltb 0 (holds_of x)) new_room) ∙ d.unheld)
+      at d (inl e) = cc (sym (ap (held_at (set c p (taken l r 1))) e ∙ ap (λ x. ltb 0 (holds_of x)) new_room) ∙ d.unheld)
       at d (inr ne) =
           let o = other_room c p j (taken l r 1) ne in
           let m = count_set j c p (taken l r 1) w in
@@ -136,7 +137,7 @@ fine_rule c e a = let s = rule_settles c in record { long = s.frees.long ∙ e; 
 
 not_refused : (b : Bool) (x : HeapRefusal) (o : Option HeapRefusal) → refuse (not b) x o ≡ None → b ≡ true
 not_refused true x o e = refl
-not_refused false x o e = let z : ◌≡◌ {A = ℕ} 0 1 = cc in absurd (omega arith)
+not_refused false x o e = cc
 
 fine_made : {n : ℕ} {c d : Model} (l r : Value) (a : Result Address HeapRefusal) → Fine n c → MakesBy counting_rule c l r a d → Fine n d
 fine_made {n} {c} {d} l r (Ok p) f m =
@@ -154,8 +155,8 @@ fine_made {n} l r (Err e) f m = subst (Fine n) (sym m.1) f
 fine_new : (n : ℕ) → Fine n (all_free n)
 fine_new n = record {
   long = length-replicate n free;
-  aged = record { age = λ p. 0; clock = 1; young = λ p. omega arith; older = λ p s k is. no_slot s k (ap (λ x. slot_of x s) (sym (all_free_lem n p)) ∙ is) };
-  quiet = λ p. quiet_by _ p (λ d. clash (sym d.taken_here ∙ ap is_taken (all_free_lem n p)));
+  aged = record { age = λ p. 0; clock = 1; young = λ p. omega arith; older = λ p s k is. cc (ap (λ x. slot_of x s) (sym (all_free_lem n p)) ∙ is) };
+  quiet = λ p. quiet_by _ p (λ d. cc (sym d.taken_here ∙ ap is_taken (all_free_lem n p)));
 }
 
 fine_does : {n : ℕ} {c d : Model} {e : Event} → Fine n c → Does counting_rule c e d → is_put e ≡ false → Fine n d
@@ -164,7 +165,7 @@ fine_does {n} f (by_hold {p = p} s) e = subst (Fine n) (sym s.leaves) (fine_hold
 fine_does {n} {c} f (by_let_go {p = p} s) e =
     subst (Fine n) (sym s.leaves) (after_both (Fine n) (let_go_refusal c p.at) c _ f (fine_rule _ (length-set c p.at _ ∙ f.long) (aged_holds c p.at _ f.aged)))
 fine_does f (by_look s) e = f
-fine_does f (by_put s) e = clash e
+fine_does f (by_put s) e = cc
 
 fine_trace : {n : ℕ} {c d : Model} {es : List Event} → Fine n c → Trace counting_rule c es d → no_put es ≡ true → Fine n d
 fine_trace f done h = f

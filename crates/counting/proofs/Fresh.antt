@@ -1,18 +1,17 @@
 -- One more free place, until all are. Assumes nothing.
-use Rattle.std.proofs.Common.{◌≡◌, ℕ, zero, suc, ◌+◌, ◌<◌, min, true, List, [], ◌∷◌, ◌++◌, map, length, get_or, take, set, Some, None, Option, sym, refl, ap, ◌∙◌, subst, inl, inr, arith}
+use Rattle.std.proofs.Common.{◌≡◌, ℕ, zero, suc, ◌+◌, ◌<◌, true, List, [], ◌∷◌, ◌++◌, map, length, get_or, take, set, Some, None, Option, sym, refl, ap, ◌∙◌, subst, arith}
 use lib.ListN.{length-map}
-use Rattle.std.proofs.lemmas.List.{take_more_set, map_push, replicate_more, take_all, length-take-le, length-append, get_or_at, set_at}
-use Rattle.std.proofs.lemmas.Bool.{cases_lt}
-use Rattle.heap.specs.Model.{free, all_free, room_at, is_taken}
+use Rattle.std.proofs.lemmas.List.{take_more_set, map_push, replicate_more, length-take-le, length-append, get_or_at, set_at}
+use Rattle.heap.specs.Model.{free, all_free, room_at}
 use Rattle.heap.specs.Counts.{count}
-use Rattle.heap.proofs.Places.{clash, all_free_lem}
+use Rattle.heap.proofs.RoomAt.{all_free_lem}
 use Rattle.heap.proofs.Counted.{count_none}
+use Rattle.counting.specs.Laws.{cell_room}
 use Rattle.counting.specs.declared.cell.Cell.{Cell}
 use Rattle.counting.specs.declared.cell.Cell.TheVariants.{Free, Taken, Dying}
 use Rattle.counting.specs.Chain.{links, linked, onward, Linked}
 use Rattle.counting.specs.Cells.{cell_at, room_of, rooms, named_of, next_free, quiet, Sound}
-use Rattle.counting.specs.ChainLemmas.{push}
-use Rattle.counting.specs.Seen.{cell_room}
+use Rattle.counting.proofs.Chains.{push}
 
 -- a place past the end that is in no chain
 get_or_none : (ns : List (Option ℕ)) (h : ℕ) → get_or (ns ++ None ∷ []) h None ≡ get_or ns h None
@@ -55,18 +54,10 @@ pub fresh_rooms : (xs : List Cell) (i h : ℕ) → i < length xs → rooms (take
 fresh_rooms xs i h w e =
     ap rooms (take_more_set xs i (Free h) w) ∙ map_push room_of (take i xs) (Free h) ∙ ap (λ ys. ys ++ free ∷ []) e ∙ replicate_more i free
 
--- the first i cells are all of the first n
-pub fresh_cut : (n : ℕ) (xs : List Cell) (i : ℕ) → i ≡ min n (length xs) → take i xs ≡ take n xs
-fresh_cut n xs i e =
-    elim (cases_lt n (length xs)) [
-      | inl h ↦ ap (λ k. take k xs) (let same : i ≡ n = omega arith in same)
-      | inr h ↦ take_all i xs (omega arith) ∙ sym (take_all n xs h)
-    ]
-
 free_cell : (x : Cell) → room_of x ≡ free → (named_of x ≡ 0) × (quiet x ≡ true)
 free_cell (Free n) e = (refl, refl)
-free_cell (Taken x) e = clash (ap is_taken e)
-free_cell (Dying l r n) e = clash (ap is_taken e)
+free_cell (Taken x) e = cc
+free_cell (Dying l r n) e = cc
 
 pub fresh_sound : (xs : List Cell) (n h : ℕ) → rooms xs ≡ all_free n → Linked (map next_free xs) h → Sound xs h
 fresh_sound xs n h e l =

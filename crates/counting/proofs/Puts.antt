@@ -4,11 +4,11 @@ use lib.Seq.{map-set}
 use Rattle.heap.specs.declared.types.Side.{Side}
 use Rattle.heap.specs.declared.types.Value.{Value}
 use Rattle.heap.specs.Model.{room_at, slot_of, written, taken_at, is_taken, names_only}
+use Rattle.counting.specs.Laws.{cell_room}
 use Rattle.counting.specs.declared.cell.Cell.{Cell}
 use Rattle.counting.specs.Cells.{cell_at, room_of, rooms, next_free}
 use Rattle.counting.specs.Work.{Owing, Working, raised, lowered, lowered_head, with_slot_of, MayPut, MayTake}
-use Rattle.counting.specs.Seen.{cell_room}
-use Rattle.counting.specs.Works.{owing_none, work_owing, work_lowered, own_raise, own_swap, raised_rooms, raised_free, lowered_rooms, swapped_rooms}
+use Rattle.counting.proofs.Works.{owing_none, work_owing, work_lowered, own_raise, own_swap, raised_rooms, raised_free, lowered_rooms, swapped_rooms}
 
 -- put: one slot more names the place of v, and v is written
 module _ {xs ys zs : List Cell} {f p : ℕ} {s : Side} {old v : Value} (may : MayPut xs f p s old v) (raises : ys ≡ raised v xs) (writes : zs ≡ set ys p (with_slot_of (cell_at ys p) s v)) where

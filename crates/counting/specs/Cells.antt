@@ -1,24 +1,20 @@
 -- The cells of a counting heap, and what holds of them between calls. Assumes nothing.
-use Rattle.std.specs.Prelude.{◌≡◌, ℕ, ◌+◌, Bool, true, false, List, map, take, drop, Some, None, vec_items, vec_len, Option, nat_lt, slice_index_or}
+use Rattle.std.specs.Prelude.{◌≡◌, ℕ, ◌+◌, Bool, true, false, List, map, Some, None, Option, nat_lt, slice_index_or}
 use Rattle.heap.specs.Model.{Room, free, taken, Model}
+use Rattle.heap.specs.Places.{places_of, spare_of}
 use Rattle.heap.specs.Counts.{count}
 use Rattle.counting.specs.declared.cell.Cell.{Cell}
 use Rattle.counting.specs.declared.cell.Cell.TheVariants.{Free, Taken, Dying}
 use Rattle.counting.specs.declared.store.Store.{Store}
 use Rattle.counting.specs.Chain.{chained}
 
--- the first 1,024 cells are the places, or all where there are fewer
+-- the cells of the places
 abbrev pub places_in : Store → List Cell
-places_in s = take 1024 (vec_items s.cells)
+places_in s = places_of s.places
 
 -- the cells beyond are not used
 abbrev pub spare_in : Store → List Cell
-spare_in s = drop 1024 (vec_items s.cells)
-
--- the cells beyond the places are as they were, and there are as many cells
-pub record SpareKept (before after : Store) : Type 0 where
-  pub spare : spare_in after ≡ spare_in before
-  pub long : vec_len after.cells ≡ vec_len before.cells
+spare_in s = spare_of s.places
 
 -- the cell of a place; past the last a free one
 abbrev pub cell_at : List Cell → ℕ → Cell

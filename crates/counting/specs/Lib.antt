@@ -3,7 +3,4 @@ pub mod Chain
 pub mod Cells
 pub mod Work
 pub mod Whole
-pub mod Settle
-pub mod Works
-pub mod ChainLemmas
-pub mod Seen
+pub mod Laws

@@ -12,6 +12,8 @@ pub struct Pair {
     pub named: u16,
 }
 
+// The free list and the worklist are threaded through the cells by places' numbers, since nothing allocates after `new`.
+// A link is a number and no `Option` of an address: a list ends at a place whose cell is not in it.
 #[derive(Clone, Copy)]
 pub enum Cell {
     // The next place of the free list, which ends where that is not free.
@@ -29,6 +31,7 @@ pub enum Cell {
 }
 
 impl Cell {
+    // Each heap has a `new` of its own cell: a trait for both would add a name and share no code.
     pub fn new() -> Cell
         ensures { result ≡ Cell.Free 0 }
     {

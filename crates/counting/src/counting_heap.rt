@@ -8,7 +8,5 @@ mod calls;
 #[derive(Drop)]
 pub struct CountingHeap {
     store: Store,
-    // The first place of the free list.
-    free: u16,
-    ghost sound: { Sound (places_in store) free },
+    ghost sound: { Sound (places_in store) store.free },
 }

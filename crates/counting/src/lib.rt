@@ -3,6 +3,7 @@
 
 mod cell;
 mod counting_heap;
+mod names;
 mod store;
 
 pub use cell::{Cell, Pair};

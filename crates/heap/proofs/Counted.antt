@@ -9,7 +9,6 @@ use Rattle.heap.specs.declared.types.Value.{Value}
 use Rattle.heap.specs.declared.types.Value.TheVariants.{Number, Nil, At}
 use Rattle.heap.specs.Model.{Room, free, taken, Model, all_free, room_at, slot_of, with_holds}
 use Rattle.heap.specs.Counts.{names, namings, room_names, count}
-use Rattle.heap.proofs.Places.{no_slot}
 
 pub names_self : (q : Address) → names q.at (At q) ≡ 1
 names_self q = grind (arith, nat_tests)
@@ -58,12 +57,12 @@ holds_count p (x ∷ m) (suc i) n = ap (λ k. room_names p x + k) (holds_count p
 
 -- a slot that names a place is counted
 room_counted : (x : Room) (s : Side) (q : Address) → slot_of x s ≡ At q → 0 < room_names q.at x
-room_counted free s q e = no_slot s q e
+room_counted free s q e = cc
 room_counted (taken l r n) Left q e = let h : names q.at l ≡ 1 = ap (names q.at) e ∙ names_self q in omega arith
 room_counted (taken l r n) Right q e = let h : names q.at r ≡ 1 = ap (names q.at) e ∙ names_self q in omega arith
 
 pub slot_counted : (m : Model) (p : ℕ) (s : Side) (q : Address) → slot_of (room_at m p) s ≡ At q → 0 < count q.at m
-slot_counted [] p s q e = no_slot s q e
+slot_counted [] p s q e = cc
 slot_counted (x ∷ m) zero s q e = let h = room_counted x s q e in omega arith
 slot_counted (x ∷ m) (suc p) s q e = let h = slot_counted m p s q e in omega arith
 

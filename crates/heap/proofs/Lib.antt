@@ -1,5 +1,6 @@
+pub mod Cells
 pub mod Counted
-pub mod Places
+pub mod RoomAt
 pub mod Releases
 pub mod Rooms
 pub mod Traces

@@ -1,26 +1,17 @@
 -- Reading and writing a heap's model. Assumes nothing.
-use Rattle.std.proofs.Common.{◌≡◌, ℕ, zero, suc, ◌+◌, ◌<◌, Bool, true, false, ◌⊎◌, [], ◌∷◌, length, take, set, sym, refl, ap, ◌∙◌, inl, inr, add-one, arith}
+use Rattle.std.proofs.Common.{◌≡◌, ℕ, zero, suc, Bool, true, ◌⊎◌, [], ◌∷◌, set, sym, refl, ap, ◌∙◌, inl, inr}
 use Rattle.heap.specs.declared.types.Address.{Address}
 use Rattle.heap.specs.declared.types.Side.{Side}
 use Rattle.heap.specs.declared.types.Side.TheVariants.{Left, Right}
 use Rattle.heap.specs.declared.types.Value.{Value}
 use Rattle.heap.specs.declared.types.Value.TheVariants.{Number, Nil, At}
-use Rattle.heap.specs.Model.{Room, free, taken, Model, all_free, room_at, is_taken, holds_of, slot_of, with_slot, with_holds, taken_at, held_at, all_taken, names_only, written}
+use Rattle.heap.specs.Model.{Room, free, taken, Model, all_free, room_at, is_taken, slot_of, with_slot, with_holds, taken_at, held_at, names_only, written}
 use Rattle.heap.specs.Reach.{Closed}
-use Rattle.heap.proofs.Places.{clash, holds_taken, all_free_lem}
-
--- so is a place with a hold
-pub holds_within : (m : Model) (p : ℕ) → (holds_of (room_at m p) ≡ 0 → ⊥) → p < length m
-holds_within [] p h = absurd (h refl)
-holds_within (x ∷ m) zero h = omega arith
-holds_within (x ∷ m) (suc p) h = let k = holds_within m p h in omega arith
+use Rattle.heap.proofs.RoomAt.{held_room, holds_slot, holds_taken, all_free_lem}
 
 -- a held place is taken
 pub held_taken : (m : Model) (p : ℕ) → held_at m p ≡ true → taken_at m p ≡ true
-held_taken [] p e = e
-held_taken (free ∷ m) zero e = e
-held_taken (taken l r n ∷ m) zero e = refl
-held_taken (x ∷ m) (suc p) e = held_taken m p e
+held_taken m p e = held_room (room_at m p) e
 
 pub names_at : (f : ℕ → Bool) (v : Value) (q : Address) → names_only f v ≡ true → v ≡ At q → f q.at ≡ true
 names_at f v q e is = ap (names_only f) (sym is) ∙ e
@@ -58,15 +49,10 @@ pub closed_set : (m : Model) (p : ℕ) (x : Room) → Closed m → (taken_at m p
 closed_set m p x closed stays names k s q is =
     taken_set m p x q.at stays (elim (room_set m p x k) [ inl e ↦ names s q (ap (λ y. slot_of y s) (sym e) ∙ is) | inr e ↦ closed k s q (ap (λ y. slot_of y s) (sym e) ∙ is) ])
 
-slots_kept : (x : Room) (n : ℕ) (s : Side) → slot_of (with_holds x n) s ≡ slot_of x s
-slots_kept free n s = refl
-slots_kept (taken l r h) n Left = refl
-slots_kept (taken l r h) n Right = refl
-
 -- another number of holds
 pub closed_holds : (m : Model) (p n : ℕ) → Closed m → Closed (set m p (with_holds (room_at m p) n))
 closed_holds m p n closed =
-    closed_set m p (with_holds (room_at m p) n) closed (λ e. holds_taken (room_at m p) n ∙ e) (λ s q is. closed p s q (sym (slots_kept (room_at m p) n s) ∙ is))
+    closed_set m p (with_holds (room_at m p) n) closed (λ e. holds_taken (room_at m p) n ∙ e) (λ s q is. closed p s q (sym (holds_slot s (room_at m p) n) ∙ is))
 
 slot_written : (x : Room) (s : Side) (v : Value) (t : Side) → (slot_of (with_slot x s v) t ≡ v) ⊎ (slot_of (with_slot x s v) t ≡ slot_of x t)
 slot_written free s v t = inr refl
@@ -98,22 +84,3 @@ closed_taken m p l r n closed left right = closed_set m p (taken l r n) closed (
 -- every place free
 pub closed_free : (n : ℕ) → Closed (all_free n)
 closed_free n p s q is = let e : ◌≡◌ {A = Value} Nil (At q) = ap (λ x. slot_of x s) (sym (all_free_lem n p)) ∙ is in cc
-
--- one more taken place
-pub all_more : (m : Model) (i : ℕ) → i < length m → taken_at m i ≡ true → all_taken (take i m) ≡ true → all_taken (take (i + 1) m) ≡ true
-all_more m i h t e = rw add-one (steps m i h t e)
-  where
-    steps : (m : Model) (i : ℕ) → i < length m → taken_at m i ≡ true → all_taken (take i m) ≡ true → all_taken (take (suc i) m) ≡ true
-    steps [] i h t e = refl
-    steps (free ∷ m) zero h t e = t
-    steps (taken l r n ∷ m) zero h t e = refl
-    steps (free ∷ m) (suc i) h t e = e
-    steps (taken l r n ∷ m) (suc i) h t e = steps m i (omega arith) t e
-
--- a place that is not taken
-pub all_not : (m : Model) (i : ℕ) → i < length m → taken_at m i ≡ false → all_taken m ≡ false
-all_not [] i h t = absurd (omega arith)
-all_not (free ∷ m) zero h t = refl
-all_not (taken l r n ∷ m) zero h t = clash t
-all_not (free ∷ m) (suc i) h t = refl
-all_not (taken l r n ∷ m) (suc i) h t = all_not m i (omega arith) t

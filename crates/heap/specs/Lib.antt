@@ -3,3 +3,4 @@ pub mod Reach
 pub mod Counts
 pub mod Trace
 pub mod Release
+pub mod Places

@@ -76,6 +76,12 @@ same_kind (Number z) w = is_number w
 same_kind Nil w = not (is_number w)
 same_kind (At p) w = not (is_number w)
 
+-- the place that a value names, if it names one
+abbrev pub address_of : Value → Option Address
+address_of (Number z) = None
+address_of Nil = None
+address_of (At p) = Some p
+
 -- a place that a value names has this property
 abbrev pub names_only : (ℕ → Bool) → Value → Bool
 names_only f (Number z) = true

@@ -27,7 +27,7 @@ pub trait Heap {
     fn look(&self, place: Address, side: Side) -> Result<Value, HeapRefusal>
         ensures { Looks (model self.now) place side result };
 
-    // Another value in a slot.
+    // Another value in a slot. Place and side stay two parameters, as a script's calls give them.
     fn put(&mut self, place: Address, side: Side, value: Value) -> Result<(), HeapRefusal>
         ensures { Puts rule (model self.old) place side value result (model self.new) };
 

@@ -2,11 +2,13 @@
 #![tactic(auto)]
 
 mod interface;
-mod kinds;
 mod numbers;
+mod places;
 mod release;
 mod types;
+mod values;
 
 pub use interface::Heap;
+pub use places::Places;
 pub use release::let_all_go;
 pub use types::{Address, HeapRefusal, Side, Value};

@@ -8,12 +8,6 @@ impl HeapRefusal {
     pub fn number(self) -> u8
         ensures { result ≡ refusal_number self }
     {
-        match self {
-            HeapRefusal::NotTaken => 40,
-            HeapRefusal::NoHold => 41,
-            HeapRefusal::TooManyHolds => 42,
-            HeapRefusal::KindChange => 43,
-            HeapRefusal::Full => 44,
-        }
+        self as u8
     }
 }

@@ -20,11 +20,12 @@ pub enum Value {
     At(Address),
 }
 
+// Why a call does nothing; each has its number.
 #[derive(Clone, Copy, Debug, PartialEq, Eq)]
 pub enum HeapRefusal {
-    NotTaken,
-    NoHold,
-    TooManyHolds,
-    KindChange,
-    Full,
+    NotTaken = 40,
+    NoHold = 41,
+    TooManyHolds = 42,
+    KindChange = 43,
+    Full = 44,
 }

@@ -6,7 +6,7 @@ use Rattle.heap.specs.declared.types.Value.{Value}
 use Rattle.heap.specs.declared.types.HeapRefusal.{HeapRefusal}
 use Rattle.heap.specs.Model.{Room, Model, room_at, is_taken, taken_at, after, Makes, Holds, hold_refusal, LetsGo, let_go_refusal, Puts, put_refusal}
 use Rattle.heap.specs.Trace.{Event, Does, by_make, by_hold, by_let_go, by_look, by_put, Trace, done, next}
-use Rattle.heap.proofs.Places.{holds_taken}
+use Rattle.heap.proofs.RoomAt.{holds_taken}
 use Rattle.heap.proofs.Rooms.{taken_set, written_taken}
 use Rattle.keep_all.specs.Kept.{keeps_all, Keeps}
 

@@ -1,7 +1,9 @@
 -- What cells stand for. Assumes nothing.
-use Rattle.std.specs.Prelude.{◌≡◌, ℕ, true, List, map, take}
+use Rattle.std.specs.Prelude.{◌≡◌, ℕ, Bool, true, not, map}
 use Rattle.heap.specs.declared.types.Side.{Side}
-use Rattle.heap.specs.Model.{Room, free, taken, Model, room_at, slot_of, taken_at, names_only}
+use Rattle.heap.specs.declared.places.Places.{Places}
+use Rattle.heap.specs.Places.{places_of}
+use Rattle.heap.specs.Model.{Room, free, taken, is_taken, Model, room_at, slot_of, taken_at, names_only}
 use Rattle.keep_all.specs.declared.cell.Cell.{Cell}
 use Rattle.keep_all.specs.declared.cell.Cell.TheVariants.{Free, Taken}
 
@@ -10,9 +12,13 @@ abbrev pub room_of : Cell → Room
 room_of Free = free
 room_of (Taken l r n) = taken l r n
 
--- the first 1,024 cells are a heap's places
-abbrev pub places_in : List Cell → Model
-places_in cells = map room_of (take 1024 cells)
+-- the cell stands for a free room
+abbrev pub is_free : Cell → Bool
+is_free x = not (is_taken (room_of x))
+
+-- the rooms of a heap's places
+abbrev pub places_in : Places Cell → Model
+places_in places = map room_of (places_of places)
 
 -- what a slot names is taken
 abbrev pub NamesTaken : Model → Type 0

@@ -1,8 +1,9 @@
 -- A heap that frees nothing. Assumes nothing.
-use Rattle.std.specs.Prelude.{◌≡◌, ℕ, ◌<◌, true, false, List, [], length, take, drop, Some, None, Ok, Err, vec_items, vec_len, Option, Result}
+use Rattle.std.specs.Prelude.{◌≡◌, ℕ, ◌<◌, true, false, List, [], length, take, Some, None, Ok, Err, Option, Result}
 use Rattle.heap.specs.declared.types.Address.{Address}
 use Rattle.heap.specs.declared.types.HeapRefusal.{HeapRefusal}
 use Rattle.heap.specs.Model.{Model, Rule, free, room_at, taken_at, all_taken}
+use Rattle.heap.specs.Places as heap_places
 use Rattle.heap.specs.Trace.{Event, Trace}
 use Rattle.keep_all.specs.declared.cell.Cell.{Cell}
 use Rattle.keep_all.specs.declared.kept.KeepAllHeap.{KeepAllHeap}
@@ -18,16 +19,11 @@ Keeps = (m n : Model) (es : List Event) (p : ℕ) → Trace keeps_all m es n →
 
 -- the places of a heap
 abbrev pub model_of : KeepAllHeap → Model
-model_of h = places_in (vec_items h.cells)
+model_of h = places_in h.places
 
 -- the cells past the places
 abbrev pub spare_of : KeepAllHeap → List Cell
-spare_of h = drop 1024 (vec_items h.cells)
-
--- the cells past the places are as they were, and so is their number
-pub record SameSpare (before after : KeepAllHeap) : Type 0 where
-  pub spare : spare_of after ≡ spare_of before
-  pub count : vec_len after.cells ≡ vec_len before.cells
+spare_of h = heap_places.spare_of h.places
 
 -- the first free place, or none where every place is taken
 abbrev pub FirstFree : Model → Option Address → Type 0

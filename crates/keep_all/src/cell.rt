@@ -5,6 +5,7 @@ ghost use Rattle.keep_all.specs.Cells.{room_of};
 
 use heap::{Side, Value};
 
+// No `Option`: its `Some` and `None` would say less than the two words, and hosts name the type.
 #[derive(Clone, Copy)]
 pub enum Cell {
     Free,
@@ -26,10 +27,7 @@ impl Cell {
     pub(crate) fn is_taken(self) -> bool
         ensures { result ≡ is_taken (room_of self) }
     {
-        match self {
-            Cell::Free => false,
-            Cell::Taken { .. } => true,
-        }
+        matches!(self, Cell::Taken { .. })
     }
 
     pub(crate) fn holds(self) -> u16
@@ -53,13 +51,13 @@ impl Cell {
     pub(crate) fn slot(self, side: Side) -> Value
         ensures { result ≡ slot_of (room_of self) side }
     {
-        match (self, side) {
-            (Cell::Free, _) => Value::Nil,
-            (Cell::Taken { left, .. }, Side::Left) => left,
-            (Cell::Taken { right, .. }, Side::Right) => right,
+        match self {
+            Cell::Free => Value::Nil,
+            Cell::Taken { left, right, .. } => side.of(left, right),
         }
     }
 
+    // The match is that of counting's `set_slot` over another cell: they share its two words and no more.
     pub(crate) fn with_slot(self, side: Side, value: Value) -> Cell
         ensures { room_of result ≡ with_slot (room_of self) side value }
     {

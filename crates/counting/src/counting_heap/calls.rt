@@ -1,15 +1,16 @@
 // What a counting heap does.
 ghost use Rattle.std.specs.Prelude.{◌≡◌, min, drop, vec_len};
-ghost use Rattle.heap.specs.Model.{all_free, taken, slot_of, Makes, Holds, LetsGo, Puts};
+ghost use Rattle.heap.specs.Model.{all_free, Makes, Holds, LetsGo, Puts};
+ghost use Rattle.heap.specs.Places.{SameSpare};
 ghost use Rattle.counting.specs.Rule.{counting_rule, RuleSettles, OneResult, LeftUpheld, Drains};
-ghost use Rattle.counting.specs.Cells.{places_in, SpareKept};
+ghost use Rattle.counting.specs.Cells.{places_in};
 ghost use Rattle.counting.specs.Work.{Finds};
 ghost use Rattle.counting.specs.Whole.{model_of, spare_of};
-ghost use Rattle.counting.specs.Settle.{rule_safe};
-ghost use Rattle.counting.specs.Works.{sound_closed};
+ghost use Rattle.counting.specs.Laws.{rule_safe, sound_closed};
 
 use super::CountingHeap;
 use crate::cell::{Cell, Pair};
+use crate::names::at;
 use crate::store::Store;
 use heap::{Address, Heap, HeapRefusal, Side, Value};
 
@@ -18,42 +19,31 @@ impl CountingHeap {
     pub fn new(cells: Vec<Cell>) -> CountingHeap
         ensures model { model_of result ≡ all_free (min 1024 (vec_len cells)) }
         ensures spare { spare_of result ≡ drop 1024 cells.items }
-        ensures long { vec_len result.store.cells ≡ vec_len cells }
+        ensures long { vec_len result.store.places.cells ≡ vec_len cells }
         ensures settles { RuleSettles }
         ensures one { OneResult }
         ensures upheld { LeftUpheld }
         ensures drains { Drains }
     {
-        let (store, free) = Store::fresh(cells);
-        CountingHeap { store, free }
+        let store = Store::fresh(cells);
+        CountingHeap { store }
     }
 
     pub fn into_cells(self) -> Vec<Cell>
-        ensures { result ≡ self.store.cells }
+        ensures { result ≡ self.store.places.cells }
     {
-        let CountingHeap {
-            store: Store { cells },
-            free: _,
-        } = self;
-        cells
+        let CountingHeap { store } = self;
+        let Store { places, free: _ } = store;
+        places.into_cells()
     }
 
     fn find(&self, place: Address) -> Option<Pair>
         ensures { Finds (places_in self.now.store) place.at result }
     {
-        match self.store.at(place) {
+        match at(&self.store.places, place) {
             Cell::Taken(pair) => Some(pair),
             Cell::Free { .. } | Cell::Dying { .. } => None,
         }
-    }
-}
-
-fn slot(pair: Pair, side: Side) -> Value
-    ensures { result ≡ slot_of (taken pair.left pair.right pair.holds) side }
-{
-    match side {
-        Side::Left => pair.left,
-        Side::Right => pair.right,
     }
 }
 
@@ -64,83 +54,60 @@ impl Heap for CountingHeap {
 
     ghost safe = { rule_safe };
 
-    ghost closed = { λ h. sound_closed (places_in h.store) h.free h.sound };
+    ghost closed = { λ h. sound_closed (places_in h.store) h.store.free h.sound };
 
     fn make(&mut self, left: Value, right: Value) -> Result<Address, HeapRefusal>
         ensures call { Makes counting_rule (model_of self.old) left right result (model_of self.new) }
-        ensures rest { SpareKept self.old.store self.new.store }
+        ensures rest { SameSpare self.old.store.places self.new.store.places }
     {
         if !self.store.both_held(left, right) {
             return Err(HeapRefusal::NoHold);
         }
-        match self.store.next_free(self.free) {
-            None => Err(HeapRefusal::Full),
-            Some(next) => {
-                let place = Address { at: self.free };
-                self.store.take(place, left, right, next);
-                self.free = next;
-                Ok(place)
-            }
-        }
+        let next = self.store.next_free().ok_or(HeapRefusal::Full)?;
+        Ok(self.store.take(left, right, next))
     }
 
     fn hold(&mut self, place: Address) -> Result<(), HeapRefusal>
         ensures call { Holds (model_of self.old) place result (model_of self.new) }
-        ensures rest { SpareKept self.old.store self.new.store }
+        ensures rest { SameSpare self.old.store.places self.new.store.places }
     {
-        match self.find(place) {
-            None => Err(HeapRefusal::NotTaken),
-            Some(pair) => {
-                if pair.holds == 65_535 {
-                    return Err(HeapRefusal::TooManyHolds);
-                }
-                let holds = pair.holds + 1;
-                self.store.write(place, Cell::Taken(Pair { holds, ..pair }));
-                Ok(())
-            }
-        }
+        let pair = self.find(place).ok_or(HeapRefusal::NotTaken)?;
+        let holds = pair.holds.checked_add(1).ok_or(HeapRefusal::TooManyHolds)?;
+        let held = Pair { holds, ..pair };
+        self.store.places.set(place, Cell::Taken(held));
+        Ok(())
     }
 
     fn let_go(&mut self, place: Address) -> Result<(), HeapRefusal>
         ensures call { LetsGo counting_rule (model_of self.old) place result (model_of self.new) }
-        ensures rest { SpareKept self.old.store self.new.store }
+        ensures rest { SameSpare self.old.store.places self.new.store.places }
     {
-        match self.find(place) {
-            None => Err(HeapRefusal::NoHold),
-            Some(pair) => {
-                if pair.holds == 0 {
-                    return Err(HeapRefusal::NoHold);
-                }
-                self.free = self.store.unhold(place, pair, self.free);
-                Ok(())
-            }
+        let pair = self.find(place).ok_or(HeapRefusal::NoHold)?;
+        if pair.holds == 0 {
+            return Err(HeapRefusal::NoHold);
         }
+        self.store.unhold(place, pair);
+        Ok(())
     }
 
     fn look(&self, place: Address, side: Side) -> Result<Value, HeapRefusal> {
-        match self.find(place) {
-            None => Err(HeapRefusal::NotTaken),
-            Some(pair) => Ok(slot(pair, side)),
-        }
+        let pair = self.find(place).ok_or(HeapRefusal::NotTaken)?;
+        Ok(side.of(pair.left, pair.right))
     }
 
     fn put(&mut self, place: Address, side: Side, value: Value) -> Result<(), HeapRefusal>
         ensures call { Puts counting_rule (model_of self.old) place side value result (model_of self.new) }
-        ensures rest { SpareKept self.old.store self.new.store }
+        ensures rest { SameSpare self.old.store.places self.new.store.places }
     {
-        match self.find(place) {
-            None => Err(HeapRefusal::NotTaken),
-            Some(pair) => {
-                if !self.store.is_taken(value) {
-                    return Err(HeapRefusal::NotTaken);
-                }
-                let old = slot(pair, side);
-                if !old.same_kind(value) {
-                    return Err(HeapRefusal::KindChange);
-                }
-                self.free = self.store.replace(place, side, old, value, self.free);
-                Ok(())
-            }
+        let pair = self.find(place).ok_or(HeapRefusal::NotTaken)?;
+        if !self.store.is_taken(value) {
+            return Err(HeapRefusal::NotTaken);
         }
+        let old = side.of(pair.left, pair.right);
+        if !old.same_kind(value) {
+            return Err(HeapRefusal::KindChange);
+        }
+        self.store.replace(place, side, old, value);
+        Ok(())
     }
 }

@@ -1,94 +1,84 @@
 // What a heap that frees nothing does.
-ghost use Rattle.std.specs.Prelude.{◌≡◌, ◌<◌, min, length, drop, vec_len, slice_set};
+ghost use Rattle.std.specs.Prelude.{◌≡◌, min, drop, vec_len, position, slice_set};
 ghost use Rattle.heap.specs.Model.{Makes, Holds, LetsGo, Puts, all_free, room_at, taken_at, held_at, names_only};
+ghost use Rattle.heap.specs.Places.{SameSpare};
 ghost use Rattle.heap.specs.Reach.{Closed};
-ghost use Rattle.keep_all.specs.Cells.{room_of};
-ghost use Rattle.keep_all.specs.Kept.{model_of, spare_of, SameSpare, FirstFree, TakesFirst, keeps_all, Keeps};
-ghost use Rattle.keep_all.specs.Writes.{heap_closed};
+ghost use Rattle.keep_all.specs.Cells.{room_of, is_free};
+ghost use Rattle.keep_all.specs.Kept.{model_of, spare_of, FirstFree, TakesFirst, keeps_all, Keeps};
+ghost use Rattle.heap.proofs.Rooms.{closed_from_names};
 ghost use Rattle.std.proofs.Common.{rules, arith};
 
 use super::KeepAllHeap;
 use crate::cell::Cell;
-use heap::{Address, Heap, HeapRefusal, Side, Value};
-
-const PLACES: usize = 1024;
+use heap::{Address, Heap, HeapRefusal, Places, Side, Value};
 
 impl KeepAllHeap {
     // The first 1,024 of the cells become free places; the others are left as they are.
-    pub fn new(mut cells: Vec<Cell>) -> KeepAllHeap
+    pub fn new(cells: Vec<Cell>) -> KeepAllHeap
         ensures model { model_of result ≡ all_free (min 1024 (vec_len cells)) }
         ensures spare { spare_of result ≡ drop 1024 cells.items }
-        ensures count { vec_len result.cells ≡ vec_len cells }
+        ensures count { vec_len result.places.cells ≡ vec_len cells }
         ensures keeps { Keeps }
     {
-        for i in 0..cells.len().min(PLACES) {
-            cells[i] = Cell::Free;
+        let mut places = Places::new(cells);
+        // `fill` was tried: over any cell it owes a clone that cannot fail, and what `fill_with` wrote the proof did not see.
+        for at in 0..places.len() {
+            places.set(Address { at }, Cell::Free);
         }
-        KeepAllHeap { cells }
+        KeepAllHeap { places }
     }
 
     // The vector that the heap was given, with what now stands in it.
     pub fn into_cells(self) -> Vec<Cell>
-        ensures { result ≡ self.cells }
+        ensures { result ≡ self.places.cells }
     {
-        let KeepAllHeap { cells } = self;
-        cells
-    }
-
-    fn capacity(&self) -> u16
-        ensures { result ≡ length (model_of self.now) }
-    {
-        self.cells.len().min(PLACES) as u16
+        let KeepAllHeap { places } = self;
+        places.into_cells()
     }
 
     fn at(&self, place: Address) -> Cell
         ensures { room_of result ≡ room_at (model_of self.now) place.at }
     {
-        if place.at < self.capacity() {
-            self.cells[place.at as usize]
-        } else {
-            Cell::Free
-        }
+        self.places.get(place).unwrap_or(Cell::Free)
     }
 
     fn write(&mut self, place: Address, cell: Cell)
-        requires within { place.at < length (model_of self.old) }
-        requires closed { Closed (slice_set (model_of self.old) place.at (room_of cell)) }
+        requires { Closed (slice_set (model_of self.old) place.at (room_of cell)) }
         ensures model { model_of self.new ≡ slice_set (model_of self.old) place.at (room_of cell) }
-        ensures spare { SameSpare self.old self.new }
+        ensures spare { SameSpare self.old.places self.new.places }
     {
-        self.cells[place.at as usize] = cell;
+        self.places.set(place, cell);
     }
 
     fn first_free(&self) -> Option<Address>
         ensures { FirstFree (model_of self.now) result }
     {
-        for at in 0..self.capacity() {
-            let place = Address { at };
-            if let Cell::Free = self.at(place) {
-                return Some(place);
-            }
-        }
-        None
+        let at = free_index(self.places.as_slice())?;
+        Some(Address { at: at as u16 })
     }
 
     fn names_held(&self, value: Value) -> bool
         ensures { result ≡ names_only (held_at (model_of self.now)) value }
     {
-        match value {
-            Value::Number(_) | Value::Nil => true,
-            Value::At(place) => self.at(place).holds() > 0,
-        }
+        value
+            .address()
+            .is_none_or(|place| self.at(place).holds() > 0)
     }
 
     fn names_taken(&self, value: Value) -> bool
         ensures { result ≡ names_only (taken_at (model_of self.now)) value }
     {
-        match value {
-            Value::Number(_) | Value::Nil => true,
-            Value::At(place) => self.at(place).is_taken(),
-        }
+        value
+            .address()
+            .is_none_or(|place| self.at(place).is_taken())
     }
+}
+
+// The number of the first free cell.
+fn free_index(cells: &[Cell]) -> Option<usize>
+    ensures { result ≡ position is_free cells.now }
+{
+    cells.iter().position(|cell| !cell.is_taken())
 }
 
 impl Heap for KeepAllHeap {
@@ -98,58 +88,49 @@ impl Heap for KeepAllHeap {
 
     ghost safe = { first_of (Prim.search rules, Prim.grind (arith, Self.row.coded.inj)) };
 
-    ghost closed = { λ h. heap_closed h };
+    ghost closed = { λ h. closed_from_names (model_of h) h.closed };
 
     fn make(&mut self, left: Value, right: Value) -> Result<Address, HeapRefusal>
         ensures makes { Makes keeps_all (model_of self.old) left right result (model_of self.new) }
         ensures first { TakesFirst (model_of self.old) result }
-        ensures spare { SameSpare self.old self.new }
+        ensures spare { SameSpare self.old.places self.new.places }
     {
         if !(self.names_held(left) && self.names_held(right)) {
             return Err(HeapRefusal::NoHold);
         }
-        match self.first_free() {
-            None => Err(HeapRefusal::Full),
-            Some(place) => {
-                self.write(
-                    place,
-                    Cell::Taken {
-                        left,
-                        right,
-                        holds: 1,
-                    },
-                );
-                Ok(place)
-            }
-        }
+        let place = self.first_free().ok_or(HeapRefusal::Full)?;
+        let cell = Cell::Taken {
+            left,
+            right,
+            holds: 1,
+        };
+        self.write(place, cell);
+        Ok(place)
     }
 
     fn hold(&mut self, place: Address) -> Result<(), HeapRefusal>
         ensures holds { Holds (model_of self.old) place result (model_of self.new) }
-        ensures spare { SameSpare self.old self.new }
+        ensures spare { SameSpare self.old.places self.new.places }
     {
         let cell = self.at(place);
         if !cell.is_taken() {
             return Err(HeapRefusal::NotTaken);
         }
-        let holds = cell.holds();
-        if holds == 65_535 {
-            return Err(HeapRefusal::TooManyHolds);
-        }
-        self.write(place, cell.with_holds(holds + 1));
+        let more = cell
+            .holds()
+            .checked_add(1)
+            .ok_or(HeapRefusal::TooManyHolds)?;
+        self.write(place, cell.with_holds(more));
         Ok(())
     }
 
     fn let_go(&mut self, place: Address) -> Result<(), HeapRefusal>
         ensures lets_go { LetsGo keeps_all (model_of self.old) place result (model_of self.new) }
-        ensures spare { SameSpare self.old self.new }
+        ensures spare { SameSpare self.old.places self.new.places }
     {
         let cell = self.at(place);
-        let holds = cell.holds();
-        if holds == 0 {
-            return Err(HeapRefusal::NoHold);
-        }
-        self.write(place, cell.with_holds(holds - 1));
+        let fewer = cell.holds().checked_sub(1).ok_or(HeapRefusal::NoHold)?;
+        self.write(place, cell.with_holds(fewer));
         Ok(())
     }
 
@@ -163,7 +144,7 @@ impl Heap for KeepAllHeap {
 
     fn put(&mut self, place: Address, side: Side, value: Value) -> Result<(), HeapRefusal>
         ensures puts { Puts keeps_all (model_of self.old) place side value result (model_of self.new) }
-        ensures spare { SameSpare self.old self.new }
+        ensures spare { SameSpare self.old.places self.new.places }
     {
         let cell = self.at(place);
         if !(cell.is_taken() && self.names_taken(value)) {

@@ -1,10 +1,13 @@
-use Rattle.std.proofs.Common.{◌≡◌, map, take, drop, vec_items, vec_len}
+use Rattle.std.proofs.Common.{◌≡◌, map, take}
 use Rattle.heap.specs.Model.{all_free}
+use Rattle.heap.specs.Places.{places_of, SameSpare}
 use Rattle.counting.specs.Chain.{Linked}
 use Rattle.counting.specs.Cells.{rooms, next_free}
 use Rattle.counting.proofs.store.Store.fresh.Given as goal
 
-abbrev pub invariant-loop-i : goal.invariant-loop-i
-invariant-loop-i l =
-    (vec_len l.cells ≡ vec_len l.initial.cells) × (drop 1024 (vec_items l.cells) ≡ drop 1024 (vec_items l.initial.cells))
-    × (rooms (take l.i (vec_items l.cells)) ≡ all_free l.i) × Linked (map next_free (take l.i (vec_items l.cells))) l.first
+abbrev pub invariant-loop-at : goal.invariant-loop-at
+invariant-loop-at l = record {
+  rooms : rooms (take l.at (places_of l.places)) ≡ all_free l.at;
+  chain : Linked (map next_free (take l.at (places_of l.places))) l.free;
+  spare : SameSpare l.initial.places l.places;
+}

@@ -1,12 +1,10 @@
-use Rattle.std.proofs.Common.{rules}
-use Rattle.keep_all.proofs.Cells.{places_count, read, past}
+use Rattle.std.proofs.Common.{ap, ◌∙◌}
+use Rattle.std.specs.Option.{unwrap_or}
+use Rattle.heap.specs.Places.{places_of}
+use Rattle.keep_all.specs.declared.cell.Cell.TheVariants.{Free}
+use Rattle.keep_all.specs.Cells.{room_of}
+use Rattle.keep_all.proofs.Cells.{read}
 use Rattle.keep_all.proofs.kept.KeepAllHeap.at.Goals as goal
 
-pub index-requires : goal.index-requires
-index-requires c = let count = places_count c.args.self.now.cells.items in search rules
-
-pub returns-then-place-capacity : goal.returns-then-place-capacity
-returns-then-place-capacity c = read c.args.self.now.cells.items c.args.place.at c.index.result.now (search rules) (search rules)
-
-pub returns-else-place-capacity : goal.returns-else-place-capacity
-returns-else-place-capacity c = past c.args.self.now.cells.items c.args.place.at (search rules)
+pub returns : goal.returns
+returns c = ap room_of (c.unwrap_or.ensures ∙ ap (λ o. unwrap_or o Free) c.get.ensures) ∙ read (places_of c.args.self.now.places) c.args.place.at

@@ -1,18 +1,26 @@
-use Rattle.std.proofs.Common.{◌<◌, length, sym, ap, ◌∙◌, take_all, rules}
-use Rattle.heap.specs.Model.{is_taken, all_taken}
-use Rattle.heap.proofs.Rooms.{all_more, all_not}
-use Rattle.keep_all.specs.Kept.{model_of}
+use Rattle.std.proofs.Common.{◌≡◌, Some, sym, ap, ◌∙◌, arith}
+use Rattle.std.specs.List.{position}
+use Rattle.std.proofs.lemmas.List.Quantifiers.{position-Some}
+use Rattle.heap.specs.Places.{places_of}
+use Rattle.heap.proofs.Cells.{places_count}
+use Rattle.keep_all.specs.declared.cell.Cell.TheVariants.{Free}
+use Rattle.keep_all.specs.Cells.{is_free}
+use Rattle.keep_all.proofs.Cells.{none_free, first_free}
 use Rattle.keep_all.proofs.kept.KeepAllHeap.first_free.Goals as goal
+use Rattle.keep_all.proofs.kept.KeepAllHeap.first_free.Goals.{In_ok-at}
 
-pub returns-in-Free : goal.returns-in-Free
-returns-in-Free c =
-    let e = sym c.in-Free.ensures in
-    let h : c.loop-at.at < length (model_of c.args.self.now) = search rules in
-    (h, e, all_not (model_of c.args.self.now) c.loop-at.at h (ap is_taken e), c.loop-at.invariant)
+found : (c : In_ok-at) → position is_free (places_of c.args.self.now.places) ≡ Some c.in_ok-at.at
+found c = ap (position is_free) (sym c.as_slice.ensures) ∙ sym c.free_index.ensures ∙ c.in_ok-at.was
 
-pub loop-at-preserved : goal.loop-at-preserved
-loop-at-preserved c =
-    all_more (model_of c.args.self.now) c.loop-at.at (search rules) (sym (ap is_taken c.in_default.ensures)) c.loop-at.invariant
+pub returns-in_err-at : goal.returns-in_err-at
+returns-in_err-at c =
+    rw c.from_residual.ensures (none_free (places_of c.args.self.now.places) (ap (position is_free) (sym c.as_slice.ensures) ∙ sym c.free_index.ensures ∙ c.in_err-at.was))
+
+pub overflow_cast-result : goal.overflow_cast-result
+overflow_cast-result c =
+    let within = (position-Some is_free (places_of c.args.self.now.places) c.in_ok-at.at Free (found c)).0 in
+    let count = places_count c.args.self.now.places in
+    omega arith
 
 pub returns : goal.returns
-returns c = sym (ap all_taken (take_all c.loop-at.at (model_of c.args.self.now) (search rules))) ∙ c.loop-at.invariant
+returns c = first_free (places_of c.args.self.now.places) (record { at = c.in_ok-at.at }) (found c)

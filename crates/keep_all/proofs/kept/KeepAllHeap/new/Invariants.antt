@@ -1,10 +1,8 @@
-use Rattle.std.proofs.Common.{◌≡◌, map, take, drop, vec_items, vec_len}
+use Rattle.std.proofs.Common.{◌≡◌, map, take}
 use Rattle.heap.specs.Model.{all_free}
+use Rattle.heap.specs.Places.{places_of, SameSpare}
 use Rattle.keep_all.specs.Cells.{room_of}
 use Rattle.keep_all.proofs.kept.KeepAllHeap.new.Given as goal
 
-abbrev pub invariant-loop-i : goal.invariant-loop-i
-invariant-loop-i l =
-    (vec_len l.cells ≡ vec_len l.initial.cells)
-    × (map room_of (take l.i (vec_items l.cells)) ≡ all_free l.i)
-    × (drop 1024 (vec_items l.cells) ≡ drop 1024 (vec_items l.initial.cells))
+abbrev pub invariant-loop-at : goal.invariant-loop-at
+invariant-loop-at l = record { cleared : map room_of (take l.at (places_of l.places)) ≡ all_free l.at; spare : SameSpare l.initial.places l.places }

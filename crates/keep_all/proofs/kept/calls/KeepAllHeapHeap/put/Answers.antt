@@ -1,11 +1,6 @@
 use Rattle.std.proofs.Common.{rules}
-use Rattle.heap.proofs.Places.{within}
-use Rattle.keep_all.specs.Kept.{model_of}
-use Rattle.keep_all.specs.Writes.{slot_closed}
+use Rattle.keep_all.proofs.Writes.{slot_closed}
 use Rattle.keep_all.proofs.kept.calls.KeepAllHeapHeap.put.Goals as goal
 
 pub write-requires : goal.write-requires
-write-requires c = record {
-  within = within (model_of c.args.self.now) c.args.place.at (search rules);
-  closed = slot_closed c.args.self.now c.args.place.at _ c.args.value c.at-cell.result c.with_slot.result c.at-cell.ensures c.with_slot.ensures (search rules);
-}
+write-requires c = slot_closed c.args.self.now c.args.place.at _ c.args.value c.at-cell.result c.with_slot.result c.at-cell.ensures c.with_slot.ensures (search rules)

@@ -5,7 +5,7 @@ use Rattle.heap.specs.declared.types.Side.{Side}
 use Rattle.heap.specs.declared.types.Value.{Value}
 use Rattle.heap.specs.Model.{Room, taken, room_at, with_holds, with_slot, taken_at, held_at, names_only}
 use Rattle.heap.specs.Reach.{Closed}
-use Rattle.heap.proofs.Places.{held_named}
+use Rattle.heap.proofs.RoomAt.{held_named}
 use Rattle.heap.proofs.Rooms.{closed_from_names, closed_holds, closed_written, closed_taken}
 use Rattle.keep_all.specs.declared.cell.Cell.{Cell}
 use Rattle.keep_all.specs.declared.kept.KeepAllHeap.{KeepAllHeap}

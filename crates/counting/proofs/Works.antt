@@ -10,9 +10,8 @@ use Rattle.heap.specs.declared.types.Value.{Value}
 use Rattle.heap.specs.declared.types.Value.TheVariants.{Number, Nil, At}
 use Rattle.heap.specs.Model.{free, taken, Model, room_at, slot_of, with_slot, written, taken_at, is_taken, holds_of, names_only}
 use Rattle.heap.specs.Counts.{names, room_names, count}
-use Rattle.heap.specs.Reach.{Closed}
-use Rattle.heap.proofs.Places.{clash}
-use Rattle.heap.proofs.Counted.{names_self, namings_few, count_few, slot_counted}
+use Rattle.heap.proofs.Counted.{names_self, namings_few, count_few}
+use Rattle.counting.specs.Laws.{Dead, cell_room, named_taken}
 use Rattle.counting.specs.declared.cell.Cell.{Cell}
 use Rattle.counting.specs.declared.cell.Cell.TheVariants.{Free, Taken, Dying}
 use Rattle.counting.specs.declared.cell.Pair.{Pair}
@@ -20,9 +19,9 @@ use Rattle.counting.specs.Rule.{Frees, Settles}
 use Rattle.counting.specs.Chain.{links, Linked}
 use Rattle.counting.specs.Cells.{cell_at, room_of, rooms, named_of, next_free, next_dying, quiet, Sound}
 use Rattle.counting.specs.Work.{quiet_or_dying, Owing, Working, Settled, with_holds, with_named, raise_cell, raised, last_name, lower_cell, lowered, lower_head, lowered_head, with_slot_of, named_by, is_at}
-use Rattle.counting.specs.Settle.{Dead, quiet_by, frees_none, frees_one, takens, takens_fall}
-use Rattle.counting.specs.ChainLemmas.{no_links, linked_none, ends}
-use Rattle.counting.specs.Seen.{cell_room, inside, dying_at, free_at, every_set, same_at, map_same, count_cell, less_at, more_at, linked_pop, linked_push, linked_same, some_free, free_within}
+use Rattle.counting.proofs.Settle.{quiet_by, frees_none, frees_one, takens, takens_fall}
+use Rattle.counting.proofs.Chains.{no_links, linked_none, ends}
+use Rattle.counting.proofs.Seen.{inside, dying_at, free_at, every_set, same_at, map_same, count_cell, less_at, more_at, linked_pop, linked_push, linked_same, some_free, free_within}
 
 -- the first of the dying is freed, and its slots are owed
 work_drop : {c : Model} {xs : List Cell} {f d n : ℕ} {l r : Value} → Working c xs f d [] → cell_at xs d ≡ Dying l r n → Working c (slice_set xs d (Free f)) d n (l ∷ (r ∷ []))
@@ -48,14 +47,9 @@ work_drop {c} {xs} {f} {d} {n} {l} {r} w is =
 
 -- what is owed is counted
 pub owed_named : {c : Model} {xs : List Cell} {f d : ℕ} {v : Value} {os : List Value} → Working c xs f d (v ∷ os) → is_at v ≡ true → 0 < named_by v xs
-owed_named {v = Number z} w e = clash (sym e)
-owed_named {v = Nil} w e = clash (sym e)
+owed_named {v = Number z} w e = cc
+owed_named {v = Nil} w e = cc
 owed_named {v = At q} w e = let a = w.counted q.at in let b = names_self q in omega arith
-
-named_taken : (x : Cell) → 0 < named_of x → is_taken (room_of x) ≡ true
-named_taken (Free n) h = absurd (omega arith)
-named_taken (Taken x) h = refl
-named_taken (Dying l r n) h = refl
 
 -- one slot less names q: its cell x then, and the first dying place e
 record Lower (xs : List Cell) (d : ℕ) (q : Address) (x : Cell) (e : ℕ) : Type 0 where
@@ -115,12 +109,12 @@ work_lower {c} {xs} {f} {d} {os} (At q) w =
 
 -- a sound list of cells has no dead place
 quiet_alive : (c : Model) (p : ℕ) (x : Cell) → room_at c p ≡ room_of x → named_of x ≡ count p c → quiet x ≡ true → Dead c p → ⊥
-quiet_alive c p (Free n) r m e d = clash (sym d.taken_here ∙ ap is_taken r)
+quiet_alive c p (Free n) r m e d = cc (sym d.taken_here ∙ ap is_taken r)
 quiet_alive c p (Taken x) r m e d =
     let a : nat_lt 0 x.holds ≡ false = sym (ap (λ y. nat_lt 0 (holds_of y)) r) ∙ d.unheld in
     let b = d.unnamed in
     grind (arith, nat_tests)
-quiet_alive c p (Dying l s n) r m e d = clash (sym e)
+quiet_alive c p (Dying l s n) r m e d = cc
 
 sound_settles : (xs : List Cell) (f : ℕ) → Sound xs f → Settles (rooms xs) (rooms xs)
 sound_settles xs f s = record { frees = frees_none (rooms xs); none_dead = λ p. quiet_by (rooms xs) p (quiet_alive (rooms xs) p (cell_at xs p) (cell_room xs p) (s.0 p) (s.1 p)) }
@@ -128,7 +122,7 @@ sound_settles xs f s = record { frees = frees_none (rooms xs); none_dead = λ p.
 dying_or_quiet : (x : Cell) → quiet_or_dying x ≡ true → next_dying x ≡ None → quiet x ≡ true
 dying_or_quiet (Free n) b e = refl
 dying_or_quiet (Taken x) b e = b
-dying_or_quiet (Dying l r n) b e = let z : ◌≡◌ {A = ℕ} 0 1 = cc in absurd (omega arith)
+dying_or_quiet (Dying l r n) b e = cc
 
 quiet_or_dying_lem : (x : Cell) → quiet x ≡ true → quiet_or_dying x ≡ true
 quiet_or_dying_lem (Free n) b = refl
@@ -206,7 +200,7 @@ quiet_links : (xs : List Cell) → ((p : ℕ) → quiet (cell_at xs p) ≡ true)
 quiet_links [] f = refl
 quiet_links (Free n ∷ xs) f = quiet_links xs (λ p. f (suc p))
 quiet_links (Taken x ∷ xs) f = quiet_links xs (λ p. f (suc p))
-quiet_links (Dying l r n ∷ xs) f = clash (sym (f 0))
+quiet_links (Dying l r n ∷ xs) f = cc (sym (f 0))
 
 pub work_owing : {xs : List Cell} {f : ℕ} {os : List Value} (d : ℕ) → Owing xs f os → Working (rooms xs) xs f d os
 work_owing {xs} d o = record {
@@ -223,9 +217,9 @@ record Raise (x : Cell) : Type 0 where
   still : quiet (raise_cell x) ≡ true
 
 raise_cell_lem : (x : Cell) → is_taken (room_of x) ≡ true → quiet x ≡ true → Raise x
-raise_cell_lem (Free n) t q = clash (sym t)
+raise_cell_lem (Free n) t q = cc
 raise_cell_lem (Taken x) t q = record { more = refl; still = grind (arith, nat_tests) }
-raise_cell_lem (Dying l r n) t q = clash (sym q)
+raise_cell_lem (Dying l r n) t q = cc
 
 raise_room : (x : Cell) → room_of (raise_cell x) ≡ room_of x
 raise_room (Free n) = refl
@@ -288,10 +282,10 @@ record Swap (x : Cell) (s : Side) (v : Value) : Type 0 where
   link : next_free (with_slot_of x s v) ≡ next_free x
 
 swap_cell : (x : Cell) (s : Side) (v : Value) → is_taken (room_of x) ≡ true → quiet x ≡ true → Swap x s v
-swap_cell (Free n) s v t q = clash (sym t)
+swap_cell (Free n) s v t q = cc
 swap_cell (Taken x) Left v t q = record { count = refl; room = refl; names = λ p. omega arith; still = refl; link = refl }
 swap_cell (Taken x) Right v t q = record { count = refl; room = refl; names = λ p. omega arith; still = refl; link = refl }
-swap_cell (Dying l r n) s v t q = clash (sym q)
+swap_cell (Dying l r n) s v t q = cc
 
 pub own_swap : {xs ys : List Cell} {f : ℕ} {v : Value} (p : ℕ) (s : Side) → Owing xs f (v ∷ []) → is_taken (room_of (cell_at xs p)) ≡ true → ys ≡ slice_set xs p (with_slot_of (cell_at xs p) s v) → Owing ys f (slot_of (room_of (cell_at xs p)) s ∷ [])
 own_swap {xs} {ys} {f} {v} p s o t e =
@@ -370,10 +364,3 @@ settled_still {ys} {f} e s = subst (λ c. Settled c ys f) e (record { settles = 
 
 pub settled_from : {b c : Model} {ys : List Cell} {f : ℕ} → b ≡ c → Settled b ys f → Settled c ys f
 settled_from {ys = ys} {f = f} e w = subst (λ c. Settled c ys f) e w
-
--- right counts: a place that a slot names is taken
-pub sound_closed : (xs : List Cell) (f : ℕ) → Sound xs f → Closed (rooms xs)
-sound_closed xs f s p side q is =
-    let a = slot_counted (rooms xs) p side q is in
-    let b = s.0 q.at in
-    ap is_taken (cell_room xs q.at) ∙ named_taken (cell_at xs q.at) (omega arith)

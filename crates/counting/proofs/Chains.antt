@@ -3,21 +3,17 @@ use Rattle.std.specs.Prelude.{◌≡◌, ℕ, zero, suc, ◌<◌, true, List, []
 use Rattle.std.proofs.Common.{sym, ap, ◌∙◌, arith}
 use Rattle.std.proofs.lemmas.List.{get_or-set_same, set-set, set-get_or}
 use Rattle.counting.specs.Chain.{links, linked, onward, Linked}
-use Rattle.heap.proofs.Places.{clash}
-
-no_some : {X : Type 0} {n : ℕ} → ◌≡◌ {A = Option ℕ} None (Some n) → X
-no_some e = let z : ◌≡◌ {A = ℕ} 0 1 = cc in absurd (omega arith)
 
 links_push : (ns : List (Option ℕ)) (p h : ℕ) → p < length ns → slice_index_or ns p None ≡ None → links (slice_set ns p (Some h)) ≡ suc (links ns)
 links_push [] p h w e = absurd (omega arith)
 links_push (None ∷ ns) zero h w e = refl
-links_push (Some n ∷ ns) zero h w e = no_some (sym e)
+links_push (Some n ∷ ns) zero h w e = cc
 links_push (None ∷ ns) (suc p) h w e = links_push ns p h (omega arith) e
 links_push (Some n ∷ ns) (suc p) h w e = ap suc (links_push ns p h (omega arith) e)
 
 links_pop : (ns : List (Option ℕ)) (p n : ℕ) → slice_index_or ns p None ≡ Some n → links ns ≡ suc (links (slice_set ns p None))
-links_pop [] p n e = no_some e
-links_pop (None ∷ ns) zero n e = no_some e
+links_pop [] p n e = cc
+links_pop (None ∷ ns) zero n e = cc
 links_pop (Some m ∷ ns) zero n e = refl
 links_pop (None ∷ ns) (suc p) n e = links_pop ns p n e
 links_pop (Some m ∷ ns) (suc p) n e = ap suc (links_pop ns p n e)
@@ -44,7 +40,7 @@ pop {ns} {h} {n} e l =
 
 ends_at : (k : ℕ) (ns : List (Option ℕ)) (h : ℕ) → slice_index_or ns h None ≡ None → linked k ns h ≡ true → k ≡ 0
 ends_at zero ns h e l = refl
-ends_at (suc k) ns h e l = clash (sym l ∙ ap (λ o. onward o (λ n. linked k (slice_set ns h None) n)) e)
+ends_at (suc k) ns h e l = cc (sym l ∙ ap (λ o. onward o (λ n. linked k (slice_set ns h None) n)) e)
 
 pub ends : {ns : List (Option ℕ)} {h : ℕ} → slice_index_or ns h None ≡ None → Linked ns h → links ns ≡ 0
 ends {ns} {h} e l = ends_at (links ns) ns h e l.all

@@ -3,20 +3,22 @@ use Rattle.std.specs.Prelude.{◌≡◌, ℕ, zero, suc, ◌+◌, ◌<◌, ◌�
 use Rattle.std.proofs.Common.{sym, ap, ◌∙◌, subst, inl, inr, arith, length-take}
 use Rattle.std.proofs.Math.ListN
 use Rattle.std.proofs.lemmas.Bool.{cases_eq}
+use Rattle.std.specs.List.{slice_get}
+use Rattle.std.specs.Option.{unwrap_or, option_map}
+use Rattle.std.proofs.lemmas.Option.{unwrap_or-slice_get, slice_get-map}
 use Rattle.std.proofs.lemmas.List.{get_or-set_same, get_or-set_other, get_or-map, get_or-take, get_or_read, length-map, map-set}
 use Rattle.heap.specs.declared.types.Address.{Address}
 use Rattle.heap.specs.declared.types.Value.{Value}
 use Rattle.heap.specs.declared.types.Value.TheVariants.{At}
 use Rattle.heap.specs.Model.{free, room_at, is_taken}
 use Rattle.heap.specs.Counts.{names, room_names, count}
-use Rattle.heap.proofs.Places.{clash}
 use Rattle.heap.proofs.Counted.{names_self, names_other, count_set}
 use Rattle.counting.specs.declared.cell.Cell.{Cell}
 use Rattle.counting.specs.declared.cell.Cell.TheVariants.{Free, Taken, Dying}
 use Rattle.counting.specs.Chain.{Linked}
-use Rattle.counting.specs.declared.store.Store.{Store}
-use Rattle.counting.specs.Cells.{SpareKept, cell_at, room_of, rooms, named_of, next_free, next_dying}
-use Rattle.counting.specs.ChainLemmas.{push, pop}
+use Rattle.counting.specs.Laws.{cell_room}
+use Rattle.counting.specs.Cells.{cell_at, room_of, rooms, named_of, next_free, next_dying}
+use Rattle.counting.proofs.Chains.{push, pop}
 
 -- the first n cells of a list
 pub first_within : (n : ℕ) (xs : List Cell) (i : ℕ) → i < length (take n xs) → (i < n) × (i < length xs)
@@ -28,19 +30,9 @@ first_few n xs = let e = length-take n xs in omega arith
 pub first_read : (n : ℕ) (xs : List Cell) (i : ℕ) (x : Cell) → i < length (take n xs) → x ≡ slice_index_or xs i x → x ≡ cell_at (take n xs) i
 first_read n xs i x h e = let w = first_within n xs i h in get_or_read xs i x w.1 e (Free 0) ∙ sym (get_or-take n xs i (Free 0) w.0)
 
--- the cells beyond, over calls
-pub kept_none : {s : Store} → SpareKept s s
-kept_none = record { spare = refl; long = refl }
-
-pub kept_then : {s t u : Store} → SpareKept s t → SpareKept t u → SpareKept s u
-kept_then a b = record { spare = b.spare ∙ a.spare; long = b.long ∙ a.long }
-
 -- a cell
-pub cell_room : (xs : List Cell) (p : ℕ) → room_at (rooms xs) p ≡ room_of (cell_at xs p)
-cell_room xs p = ListN.get_or-map room_of xs p (Free 0)
-
 pub inside : (xs : List Cell) (p : ℕ) → is_taken (room_of (cell_at xs p)) ≡ true → p < length xs
-inside [] p e = clash (sym e)
+inside [] p e = cc
 inside (x ∷ xs) zero e = omega arith
 inside (x ∷ xs) (suc p) e = let h = inside xs p e in omega arith
 
@@ -128,17 +120,21 @@ not_free (Dying l r n) h = refl
 
 -- a free place
 some_within : (ns : List (Option ℕ)) (p n : ℕ) → slice_index_or ns p None ≡ Some n → p < length ns
-some_within [] p n e = let z : ◌≡◌ {A = ℕ} 0 1 = cc in absurd (omega arith)
+some_within [] p n e = cc
 some_within (o ∷ ns) zero n e = omega arith
 some_within (o ∷ ns) (suc p) n e = let h = some_within ns p n e in omega arith
 
 pub some_free : (x : Cell) (n : ℕ) → next_free x ≡ Some n → (named_of x ≡ 0) × (room_of x ≡ free)
 some_free (Free m) n e = (refl, refl)
-some_free (Taken y) n e = let z : ◌≡◌ {A = ℕ} 0 1 = cc in absurd (omega arith)
-some_free (Dying l r m) n e = let z : ◌≡◌ {A = ℕ} 0 1 = cc in absurd (omega arith)
+some_free (Taken y) n e = cc
+some_free (Dying l r m) n e = cc
 
 pub free_within : (xs : List Cell) (f n : ℕ) → slice_index_or (map next_free xs) f None ≡ Some n → f < length xs
 free_within xs f n e = let h = some_within (map next_free xs) f n e in omega (arith, length-map xs next_free)
 
 pub free_room : (xs : List Cell) (f n : ℕ) → slice_index_or (map next_free xs) f None ≡ Some n → room_at (rooms xs) f ≡ free
 free_room xs f n e = cell_room xs f ∙ (some_free (cell_at xs f) n (sym (free_at xs f (free_within xs f n e)) ∙ e)).1
+
+-- the free list, as it is read through the places
+pub free_read : (xs : List Cell) (f : ℕ) (o : Option Cell) → slice_get xs f ≡ o → slice_index_or (map next_free xs) f None ≡ unwrap_or (option_map next_free o) None
+free_read xs f o e = sym (unwrap_or-slice_get (map next_free xs) f None) ∙ ap (λ n. unwrap_or n None) (slice_get-map next_free xs f ∙ ap (option_map next_free) e)

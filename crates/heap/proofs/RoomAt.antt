@@ -1,5 +1,5 @@
 -- Reading and writing the rooms of a model. Assumes nothing.
-use Rattle.std.proofs.Common.{◌≡◌, ℕ, zero, suc, ◌<◌, Bool, true, false, ltb, [], ◌∷◌, length, set, Some, None, Option, sym, refl, ap, arith}
+use Rattle.std.proofs.Common.{◌≡◌, ℕ, zero, suc, ◌<◌, true, false, ltb, [], ◌∷◌, length, set, Some, None, Option, refl, arith}
 use Rattle.std.proofs.lemmas.List.{get_or-set_same, get_or-set_other}
 use Rattle.heap.specs.declared.types.Address.{Address}
 use Rattle.heap.specs.declared.types.Side.{Side}
@@ -9,28 +9,22 @@ use Rattle.heap.specs.declared.types.Value.TheVariants.{Number, Nil, At}
 use Rattle.heap.specs.declared.types.HeapRefusal.{HeapRefusal}
 use Rattle.heap.specs.Model.{Room, free, taken, Model, all_free, room_at, slot_of, with_holds, holds_of, is_taken, taken_at, held_at, all_taken, names_only, after}
 
-pub clash : {X : Type 0} → ◌≡◌ {A = Bool} true false → X
-clash e = let n : ◌≡◌ {A = ℕ} 0 1 = cc in absurd (omega arith)
-
 -- one room
-pub held_taken : (x : Room) → ltb 0 (holds_of x) ≡ true → is_taken x ≡ true
-held_taken free e = clash (sym e)
-held_taken (taken l r n) e = refl
+pub held_room : (x : Room) → ltb 0 (holds_of x) ≡ true → is_taken x ≡ true
+held_room free e = cc
+held_room (taken l r n) e = refl
 
 pub not_taken : (x : Room) → is_taken x ≡ false → x ≡ free
 not_taken free e = refl
-not_taken (taken l r n) e = clash e
-
-pub no_slot : {X : Type 0} (s : Side) (q : Address) → slot_of free s ≡ At q → X
-no_slot s q e = let z : ◌≡◌ {A = ℕ} 0 1 = cc in absurd (omega arith)
+not_taken (taken l r n) e = cc
 
 pub slot_taken : (x : Room) (s : Side) (q : Address) → slot_of x s ≡ At q → is_taken x ≡ true
-slot_taken free s q e = no_slot s q e
+slot_taken free s q e = cc
 slot_taken (taken l r n) s q e = refl
 
 -- a room of a model
 pub within : (m : Model) (p : ℕ) → taken_at m p ≡ true → p < length m
-within [] p e = clash (sym e)
+within [] p e = cc
 within (x ∷ m) zero e = omega arith
 within (x ∷ m) (suc p) e = let h = within m p e in omega arith
 
@@ -53,7 +47,7 @@ all_free_lem (suc n) (suc p) = all_free_lem n p
 pub not_all_taken : (m : Model) (p : ℕ) → p < length m → room_at m p ≡ free → all_taken m ≡ false
 not_all_taken [] p h t = absurd (omega arith)
 not_all_taken (free ∷ m) p h t = refl
-not_all_taken (taken l r n ∷ m) zero h t = clash (ap is_taken t)
+not_all_taken (taken l r n ∷ m) zero h t = cc
 not_all_taken (taken l r n ∷ m) (suc p) h t = not_all_taken m p (omega arith) t
 
 -- a property of a room that the number of holds leaves as it is
@@ -77,7 +71,7 @@ holds_taken (taken l r m) n = refl
 pub held_named : (m : Model) (v : Value) → names_only (held_at m) v ≡ true → names_only (taken_at m) v ≡ true
 held_named m (Number z) h = refl
 held_named m Nil h = refl
-held_named m (At q) h = held_taken (room_at m q.at) h
+held_named m (At q) h = held_room (room_at m q.at) h
 
 pub after_both : (P : Model → Type 0) (o : Option HeapRefusal) (m n : Model) → P m → P n → P (after o m n)
 after_both P None m n x y = y

@@ -1,26 +1,16 @@
 -- What the rule leaves is what every order of freeing leaves. Assumes nothing.
-use Rattle.std.specs.Prelude.{◌≡◌, ℕ, zero, suc, ◌<◌, ◌≤◌, Bool, true, false, cond, ◌⊎◌, List, [], ◌∷◌, ◌++◌, length, ◌≢◌, nat_eq, nat_lt, slice_set, refl}
-use Rattle.std.proofs.Common.{sym, ap, ◌∙◌, subst, inl, inr, arith, length-set}
+use Rattle.std.specs.Prelude.{◌≡◌, ℕ, zero, suc, ◌<◌, ◌≤◌, Bool, true, false, ◌⊎◌, List, [], ◌∷◌, ◌++◌, length, ◌≢◌, nat_lt, slice_set, refl}
+use Rattle.std.proofs.Common.{sym, ap, ◌∙◌, inl, inr, arith, length-set}
 use Rattle.std.proofs.lemmas.Bool.Decides.{nat_tests}
 use Rattle.std.proofs.lemmas.Bool.{cases_eq, cases_Bool}
 use Rattle.std.proofs.lemmas.List.{ext_get_or}
 use Rattle.heap.specs.declared.types.Value.TheVariants.{At}
 use Rattle.heap.specs.Model.{free, taken, Model, room_at, slot_of, held_at, taken_at, is_taken, holds_of, freed}
-use Rattle.heap.specs.Reach as reach
-use Rattle.heap.specs.Reach.{Safe, Reached, among}
 use Rattle.heap.specs.Counts.{count}
-use Rattle.heap.proofs.Places.{clash, within, slot_taken, not_taken, other_room, freed_room}
-use Rattle.heap.proofs.Counted.{slot_counted, uncounted, namer}
-use Rattle.counting.specs.Rule.{dead, last_dead, dead_in_turn, counting_rule, Backed, by_hold, by_slot, Upheld, Frees, Settles, RuleSettles, OneResult}
-
--- the parts of dead
-pub record Dead (c : Model) (p : ℕ) : Type 0 where
-  pub taken_here : taken_at c p ≡ true
-  pub unheld : held_at c p ≡ false
-  pub unnamed : count p c ≡ 0
-
-pub dead_parts : (c : Model) (p : ℕ) → dead c p ≡ true → Dead c p
-dead_parts c p e = record { taken_here = grind (arith, nat_tests); unheld = grind (arith, nat_tests); unnamed = grind (arith, nat_tests) }
+use Rattle.heap.proofs.RoomAt.{within, slot_taken, not_taken, other_room, freed_room}
+use Rattle.heap.proofs.Counted.{uncounted, namer}
+use Rattle.counting.specs.Laws.{Dead, dead_parts, Round, nothing, one, round}
+use Rattle.counting.specs.Rule.{dead, last_dead, dead_in_turn, Backed, by_hold, by_slot, Upheld, Frees, Settles, RuleSettles, OneResult}
 
 dead_from : (c : Model) (p : ℕ) → Dead c p → dead c p ≡ true
 dead_from c p h = let a = h.taken_here in let b = h.unheld in let u = h.unnamed in grind (arith, nat_tests)
@@ -29,7 +19,7 @@ pub quiet_by : (c : Model) (p : ℕ) → (Dead c p → ⊥) → dead c p ≡ fal
 quiet_by c p f = elim (cases_Bool (dead c p)) [ inl e ↦ absurd (f (dead_parts c p e)) | inr e ↦ e ]
 
 pub loud : (c : Model) (p : ℕ) → dead c p ≡ false → Dead c p → ⊥
-loud c p e d = clash (sym (dead_from c p d) ∙ e)
+loud c p e d = cc (sym (dead_from c p d) ∙ e)
 
 pub frees_none : (c : Model) → Frees c c
 frees_none c = record { long = refl; same = λ p t. refl; keeps = λ S u p e. u.taken p e }
@@ -41,7 +31,7 @@ apart {c} {d} {p} f h S u e = by (u.backed p e)
     by : Backed c S p → ⊥
     by (by_hold k) =
         let s : held_at d p ≡ held_at c p = ap (λ x. nat_lt 0 (holds_of x)) (f.same p (f.keeps S u p e)) in
-        clash (sym (s ∙ k) ∙ h.unheld)
+        cc (sym (s ∙ k) ∙ h.unheld)
     by (by_slot q s k i is at) =
         let w : slot_of (room_at d q) s ≡ At k = ap (λ x. slot_of x s) (f.same q (f.keeps S u q i)) ∙ is in
         uncounted d p q s k h.unnamed w at
@@ -50,7 +40,7 @@ pub frees_one : {c d : Model} {p : ℕ} → Frees c d → Dead d p → Frees c (
 frees_one {c} {d} {p} f h = record {
   long = length-set d p free ∙ f.long;
   same = λ q t. elim (cases_eq q p) [
-    | inl e ↦ clash (sym t ∙ ap (λ i. taken_at (slice_set d p free) i) e ∙ ap is_taken (freed_room d p))
+    | inl e ↦ cc (sym t ∙ ap (λ i. taken_at (slice_set d p free) i) e ∙ ap is_taken (freed_room d p))
     | inr ne ↦ other_room d p q free ne ∙ f.same q (ap is_taken (sym (other_room d p q free ne)) ∙ t)
   ];
   keeps = λ S u q i. elim (cases_eq q p) [
@@ -76,24 +66,9 @@ one_result c d e s t = ext_get_or free d e (s.frees.long ∙ sym t.frees.long) (
   where
     at : (p : ℕ) → (taken_at d p ≡ true) ⊎ (taken_at d p ≡ false) → (taken_at e p ≡ true) ⊎ (taken_at e p ≡ false) → room_at d p ≡ room_at e p
     at p (inl a) (inl b) = s.frees.same p a ∙ sym (t.frees.same p b)
-    at p (inl a) (inr b) = clash (sym (t.frees.keeps (taken_at d) (left_upheld s.frees s.none_dead) p a) ∙ b)
-    at p (inr a) (inl b) = clash (sym (s.frees.keeps (taken_at e) (left_upheld t.frees t.none_dead) p b) ∙ a)
+    at p (inl a) (inr b) = cc (sym (t.frees.keeps (taken_at d) (left_upheld s.frees s.none_dead) p a) ∙ b)
+    at p (inr a) (inl b) = cc (sym (s.frees.keeps (taken_at e) (left_upheld t.frees t.none_dead) p b) ∙ a)
     at p (inr a) (inr b) = not_taken _ a ∙ sym (not_taken _ b)
-
--- the rounds
-pub data Round (c : Model) (n : ℕ) : List ℕ → Type 0 where
-  nothing : ((p : ℕ) → p < n → dead c p ≡ false) → Round c n []
-  one : (p : ℕ) → dead c p ≡ true → Round c n (p ∷ [])
-
-pub round : (c : Model) (n : ℕ) → Round c n (last_dead c n)
-round c zero = nothing (λ p h. absurd (omega arith))
-round c (suc n) = step (dead c n) refl (last_dead c n) (round c n)
-  where
-    step : (b : Bool) → dead c n ≡ b → (ps : List ℕ) → Round c n ps → Round c (suc n) (cond b (n ∷ []) ps)
-    step true e ps r = one n e
-    step false e [] (nothing f) = nothing (λ p h. elim (cases_eq p n) [ inl i ↦ ap (dead c) i ∙ e | inr ne ↦ f p (grind arith) ])
-    step false e (p ∷ []) (one q d) = one q d
-    step false e (p ∷ (j ∷ ps)) r = elim r [ ]
 
 abbrev pub takens : Model → ℕ
 takens [] = 0
@@ -106,8 +81,8 @@ takens_few (free ∷ c) = let h = takens_few c in omega arith
 takens_few (taken l r n ∷ c) = let h = takens_few c in omega arith
 
 pub takens_fall : (c : Model) (p : ℕ) → taken_at c p ≡ true → suc (takens (slice_set c p free)) ≡ takens c
-takens_fall [] p e = clash (sym e)
-takens_fall (free ∷ c) zero e = clash (sym e)
+takens_fall [] p e = cc
+takens_fall (free ∷ c) zero e = cc
 takens_fall (taken l r n ∷ c) zero e = refl
 takens_fall (free ∷ c) (suc p) e = takens_fall c p e
 takens_fall (taken l r n ∷ c) (suc p) e = ap suc (takens_fall c p e)
@@ -128,7 +103,7 @@ still (suc n) c f = step (still n c f) (last_dead c (length c)) (round c (length
   where
     step : dead_in_turn n c ≡ [] → (ps : List ℕ) → Round c (length c) ps → ps ++ dead_in_turn n (freed ps c) ≡ []
     step go [] r = go
-    step go (p ∷ []) (one q d) = clash (sym d ∙ f q)
+    step go (p ∷ []) (one q d) = cc (sym d ∙ f q)
     step go (p ∷ (j ∷ ps)) r = elim r [ ]
 
 pub rounds_settle : (n : ℕ) (c d : Model) → Frees c d → takens d ≤ n → Settles c (freed (dead_in_turn n d) d)
@@ -145,41 +120,3 @@ rounds_settle (suc n) c d f h = step (λ e. rounds_settle n c e) (last_dead d (l
 
 pub rule_settles : RuleSettles
 rule_settles c = rounds_settle (length c) c c (frees_none c) (takens_few c)
-
--- what is reached is not dead, and stays reached
-reached_alive : (c : Model) (p : ℕ) → Reached c p → Dead c p → ⊥
-reached_alive c p (reach.held q h) e = clash (sym h ∙ e.unheld)
-reached_alive c p (reach.named q k s r is) e = let h = slot_counted c q s k is in let z = e.unnamed in omega arith
-
-reached_stays : (c : Model) (q : ℕ) (p : ℕ) → Dead c q → Reached c p → Reached (slice_set c q free) p
-reached_stays c q p d (reach.held j h) =
-    elim (cases_eq j q) [
-      | inl e ↦ absurd (reached_alive c q (subst (Reached c) e (reach.held j h)) d)
-      | inr ne ↦ reach.held j (ap (λ x. nat_lt 0 (holds_of x)) (other_room c q j free ne) ∙ h)
-    ]
-reached_stays c q p d (reach.named j k s r is) =
-    elim (cases_eq j q) [
-      | inl e ↦ absurd (reached_alive c q (subst (Reached c) e r) d)
-      | inr ne ↦ reach.named j k s (reached_stays c q j d r) (ap (λ x. slot_of x s) (other_room c q j free ne) ∙ is)
-    ]
-
-dead_in_turn_lost : (n : ℕ) (c : Model) (p : ℕ) → among p (dead_in_turn n c) ≡ true → Reached c p → ⊥
-dead_in_turn_lost zero c p e r = clash (sym e)
-dead_in_turn_lost (suc n) c p e r = step (λ d. dead_in_turn_lost n d p) (last_dead c (length c)) (round c (length c)) e
-  where
-    step : ((d : Model) → among p (dead_in_turn n d) ≡ true → Reached d p → ⊥) → (ps : List ℕ) → Round c (length c) ps → among p (ps ++ dead_in_turn n (freed ps c)) ≢ true
-    step go [] w e = go c e r
-    step go (i ∷ (j ∷ ps)) w e = elim w [ ]
-    step go (j ∷ []) (one q d) e =
-        let k = dead_parts c q d in
-        elim (cases_eq p q) [
-          | inl i ↦ reached_alive c q (subst (Reached c) i r) k
-          | inr ne ↦ go (slice_set c q free) (let z : nat_eq p q ≡ false = grind (arith, nat_tests) in grind (arith, nat_tests)) (reached_stays c q p k r)
-        ]
-
-pub rule_safe : Safe counting_rule
-rule_safe = record {
-  make = λ c p e r. clash (sym e);
-  let_go = λ c p e r. dead_in_turn_lost (length c) c p e r;
-  put = λ c p e r. dead_in_turn_lost (length c) c p e r;
-}
