@@ -1,6 +1,7 @@
 -- The table's rule, computed at each of its 256 entries. Assumes nothing.
 use Rattle.std.proofs.Common.{◌≡◌, ℕ, zero, suc, ◌+◌, ◌<◌, List, [], ◌∷◌, get_or, sym, ap, ◌∙◌, le_of_suc-le-suc, not-suc-le-zero, add-zero, add-suc, suc-add, zero-add}
-use Rattle.byte_class.specs.Classes.{class_of, number_of}
+use Rattle.byte_class.specs.declared.Class.{Class}
+use Rattle.byte_class.specs.Classes.{class_of}
 
 -- f at n places, counted from i
 abbrev pub row : {X : Type 0} → (ℕ → X) → ℕ → ℕ → List X
@@ -12,9 +13,6 @@ row_at f i zero k d h = absurd (not-suc-le-zero h)
 row_at f i (suc n) zero d h = ap f (sym (add-zero i))
 row_at f i (suc n) (suc k) d h = row_at f (suc i) n k d (le_of_suc-le-suc h) ∙ ap f (suc-add i k ∙ sym (add-suc i k))
 
-abbrev pub entry : ℕ → ℕ
-entry b = number_of (class_of b)
-
 -- what stands at k in the table that the formula makes
-pub entry_rule : (k : ℕ) → k < 256 → get_or (row entry 0 256) k 0 ≡ entry k
-entry_rule k h = row_at entry 0 256 k 0 h ∙ ap entry (zero-add k)
+pub entry_rule : (k : ℕ) (d : Class) → k < 256 → get_or (row class_of 0 256) k d ≡ class_of k
+entry_rule k d h = row_at class_of 0 256 k d h ∙ ap class_of (zero-add k)

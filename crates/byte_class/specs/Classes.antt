@@ -66,27 +66,3 @@ mark_of (c ∷ cs) b = cond (b == byte_of c) c (mark_of cs b)
 -- the class of a byte
 abbrev pub class_of : ℕ → Class
 class_of b = cond (letter b) Letter (cond (digit b) Digit (cond (blank b) Blank (mark_of marks b)))
-
--- the number that stands for a class in the table
-abbrev pub number_of : Class → ℕ
-number_of Letter = 0
-number_of Digit = 1
-number_of Blank = 2
-number_of LeftParen = 3
-number_of RightParen = 4
-number_of LeftBrace = 5
-number_of RightBrace = 6
-number_of Comma = 7
-number_of Semicolon = 8
-number_of Equals = 9
-number_of Plus = 10
-number_of Minus = 11
-number_of Star = 12
-number_of Dot = 13
-number_of Less = 14
-number_of Greater = 15
-number_of Bang = 16
-number_of Ampersand = 17
-number_of Pipe = 18
-number_of Slash = 19
-number_of Other = 20

@@ -1,20 +1,10 @@
 -- How a listing grows. Assumes nothing.
-use Rattle.std.proofs.Common.{◌≡◌, ℕ, suc, ◌+◌, ◌<◌, ◌≤◌, false, eqb, List, [], ◌∷◌, ◌++◌, map, length, get_or, take, sym, refl, ap, ◌∙◌, append_assoc, append-nil, add-zero, add-suc, suc-add, zero-add, arith}
+use Rattle.std.proofs.Common.{◌≡◌, ℕ, suc, ◌+◌, ◌<◌, ◌≤◌, List, [], ◌∷◌, ◌++◌, map, length, get_or, take, sym, ap, ◌∙◌, append_assoc, append-nil, add-zero, add-suc, suc-add, zero-add, arith}
 use Rattle.std.proofs.lemmas.List.{length-map, length-take-le, map_more}
-use Rattle.std.proofs.lemmas.Bool.{both_ways, lt-ltb, le-ltb, cond-true, cond-false}
+use Rattle.std.proofs.lemmas.Bool.{le-ltb, cond-false}
 use Rattle.tokens.specs.declared.types.Placed.{Placed}
 use Rattle.tokens.specs.Spelling.{Item, symbol_of, item_of}
-use Rattle.lexemes.specs.declared.refusal.Reason.TheVariants.{LongSource}
-use Rattle.lexemes.specs.Listing.{after_blank, refusal_line, reason_at, line_by, lines_from, listing_of}
-
--- a blank and then a word
-pub blank_word : (t u v word : List ℕ) → eqb (length word) 0 ≡ false → u ≡ t ++ 32 ∷ [] → v ≡ u ++ word → v ≡ t ++ after_blank word
-blank_word t u v [] h hu hv = absurd (both_ways _ h refl)
-blank_word t u v (b ∷ bs) h hu hv = hv ∙ ap (λ x. x ++ b ∷ bs) hu ∙ append_assoc t (32 ∷ []) (b ∷ bs)
-
--- three pieces, one after the other
-pub three : (t u v w a b n : List ℕ) → u ≡ t ++ a → v ≡ u ++ b → w ≡ v ++ n → w ≡ t ++ (a ++ (b ++ n))
-three t u v w a b n hu hv hw = hw ∙ ap (λ x. x ++ n) (hv ∙ ap (λ x. x ++ b) hu) ∙ append_assoc (t ++ a) b n ∙ append_assoc t a (b ++ n)
+use Rattle.lexemes.specs.Listing.{reason_at, line_by, lines_from, listing_of}
 
 lines_push : (source : List ℕ) (n : ℕ) (xs : List Item) (x : Item) → lines_from source n (xs ++ x ∷ []) ≡ lines_from source n xs ++ line_by source x (reason_at (n + length xs) x.symbol)
 unfolding lines_from
@@ -35,9 +25,6 @@ lines_more source ps i d t u h so_far line =
     ∙ ap (λ l. l ++ line_by source x (reason_at i x.symbol)) so_far
     ∙ ap (λ k. lines_from source 0 (map item_of (take i ps)) ++ line_by source x (reason_at k x.symbol)) (sym before)
     ∙ sym (ap (lines_from source 0) (map_more item_of ps i d h) ∙ lines_push source 0 (map item_of (take i ps)) x)
-
-pub long_listing : (source : List ℕ) (items : List Item) → 8192 < length source → refusal_line source LongSource 8192 ≡ listing_of source items
-long_listing source items h = sym (cond-true _ _ _ (lt-ltb 8192 (length source) h))
 
 pub short_listing : (source : List ℕ) (items : List Item) → length source ≤ 8192 → lines_from source 0 (take 2049 items) ≡ listing_of source items
 short_listing source items h = sym (cond-false _ _ _ (le-ltb 8192 (length source) h))

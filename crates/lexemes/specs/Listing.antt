@@ -1,11 +1,9 @@
 -- The text that lists the items of a script. Assumes nothing.
-use Rattle.std.specs.Prelude.{ℕ, suc, ◌+◌, ◌-◌, ◌^◌, min, cond, List, [], ◌∷◌, ◌++◌, length, take, drop, Some, None, codes, decimal, Option, nat_lt}
+use Rattle.std.specs.Prelude.{ℕ, suc, cond, List, [], ◌∷◌, ◌++◌, length, take, drop, Some, None, codes, decimal, Option, nat_lt}
 use Rattle.std.specs.Char.{is_ascii_digit}
-use Rattle.position.specs.Lines.{breaks, since_break}
-use Rattle.tokens.specs.declared.types.Trouble.{Trouble}
-use Rattle.tokens.specs.declared.types.Trouble.TheVariants.{NoToken, OpenComment, LargeConstant}
-use Rattle.tokens.specs.Spelling.{Symbol, name, constant, keyword, mark, end, trouble, Item, keyword_text, mark_text, trouble_number}
-use Rattle.tokens.specs.Scan.{run}
+use Rattle.refusal_line.specs.Line.{refusal_line}
+use Rattle.tokens.specs.Spelling.{Symbol, name, constant, keyword, mark, end, trouble, Item, keyword_text, mark_text, trouble_number, trouble_words}
+use Rattle.std.specs.List.{take_while}
 use Rattle.lexemes.specs.declared.refusal.Reason.{Reason}
 use Rattle.lexemes.specs.declared.refusal.Reason.TheVariants.{LongSource, ManyTokens, Trouble as ByTrouble}
 
@@ -14,34 +12,18 @@ reason_number LongSource = 1
 reason_number ManyTokens = 6
 reason_number (ByTrouble t) = trouble_number t
 
-abbrev pub trouble_words : Trouble → List ℕ
-trouble_words NoToken = codes "no token begins with this byte"
-trouble_words OpenComment = codes "this comment is never closed"
-trouble_words LargeConstant = codes "this constant is above 9223372036854775807"
-
 abbrev pub reason_words : Reason → List ℕ
 reason_words LongSource = codes "a script has at most 8,192 bytes"
 reason_words ManyTokens = codes "this is token 2,049, and a script has at most 2,048"
 reason_words (ByTrouble t) = trouble_words t
 
--- the line and the column of an offset, as they are counted in 64 bits
-abbrev pub line_of : List ℕ → ℕ → ℕ
-line_of source at = min (breaks (take at source) + 1) (2 ^ 64 - 1)
-
-abbrev pub column_of : List ℕ → ℕ → ℕ
-column_of source at = min (since_break 0 (take at source) + 1) (2 ^ 64 - 1)
-
--- LINE:COLUMN: refused with NUMBER at offset OFFSET: WORDS
-unfoldable pub refusal_text : (line column number at : ℕ) → List ℕ → List ℕ
-refusal_text line column number at words =
-    decimal line ++ (codes ":" ++ (decimal column ++ (codes ": refused with " ++ (decimal number ++ (codes " at offset " ++ (decimal at ++ (codes ": " ++ (words ++ codes "\n"))))))))
-
-abbrev pub refusal_line : List ℕ → Reason → ℕ → List ℕ
-refusal_line source r at = refusal_text (line_of source at) (column_of source at) (reason_number r) at (reason_words r)
+-- the line that refuses a source at an offset
+abbrev pub reason_line : List ℕ → Reason → ℕ → List ℕ
+reason_line source r at = refusal_line source (reason_number r) at (reason_words r)
 
 -- the digits that a text begins with
 unfoldable pub digits_of : List ℕ → List ℕ
-digits_of bs = take (run is_ascii_digit bs) bs
+digits_of bs = take_while is_ascii_digit bs
 
 abbrev pub kind_text : Symbol → List ℕ
 kind_text (name w) = codes "name"
@@ -82,7 +64,7 @@ reason_at n (trouble t) = Some (ByTrouble t)
 
 abbrev pub line_by : List ℕ → Item → Option Reason → List ℕ
 line_by source x None = item_line source x
-line_by source x (Some r) = refusal_line source r x.at
+line_by source x (Some r) = reason_line source r x.at
 
 -- the lines of the items that have n before them
 unfoldable pub lines_from : List ℕ → ℕ → List Item → List ℕ
@@ -91,4 +73,4 @@ lines_from source n (x ∷ xs) = line_by source x (reason_at n x.symbol) ++ line
 
 -- the listing of a source that has these items
 abbrev pub listing_of : List ℕ → List Item → List ℕ
-listing_of source items = cond (nat_lt 8192 (length source)) (refusal_line source LongSource 8192) (lines_from source 0 (take 2049 items))
+listing_of source items = cond (nat_lt 8192 (length source)) (reason_line source LongSource 8192) (lines_from source 0 (take 2049 items))

@@ -2,9 +2,10 @@
 ghost use Rattle.std.specs.Prelude.{◌≡◌, List, ◌++◌, drop, IfOk, string_bytes, codes, decimal, OnOk};
 ghost use Rattle.tokens.specs.Spelling.{Item, symbol_of, item_of};
 ghost use Rattle.tokens.specs.Lexing.{Lexes};
-ghost use Rattle.lexemes.specs.Listing.{digits_of, kind_text, spelling, after_blank, item_line, reason_at, line_by, listing_of};
+ghost use Rattle.lexemes.specs.Listing.{digits_of, kind_text, spelling, after_blank, item_line, reason_line, reason_at, line_by, listing_of};
+ghost use Rattle.lexemes.specs.Growing.{Grows};
 
-use crate::refusal::{Reason, refusal_line};
+use crate::refusal::Reason;
 use std::alloc::{AllocError, Global};
 use tokens::{Placed, Token, TokenList};
 
@@ -16,22 +17,14 @@ const MOST_TOKENS: usize = 2048;
 fn rest_at(source: &[u8], at: usize) -> &[u8]
     ensures { result.now ≡ drop at source.now }
 {
-    if at < source.len() {
-        &source[at..]
-    } else {
-        b""
-    }
+    source.get(at..).unwrap_or(b"")
 }
 
 fn digits_of(text: &[u8]) -> &[u8]
     ensures { result.now ≡ digits_of text.now }
 {
-    for i in 0..text.len() {
-        if !text[i].is_ascii_digit() {
-            return &text[0..i];
-        }
-    }
-    text
+    let len = text.iter().take_while(|b| b.is_ascii_digit()).count();
+    &text[..len]
 }
 
 fn kind_of(token: Token) -> &'static str
@@ -59,43 +52,10 @@ fn spelling_of<'a>(source: &'a [u8], placed: Placed<'a>) -> &'a [u8]
     }
 }
 
-fn push(text: &mut Vec<u8>, more: &[u8]) -> Result<(), AllocError>
-    ensures { OnOk result (text.new.items ≡ text.old.items ++ more.now) }
-{
-    text.extend_from_slice(more)?;
-    Ok(())
-}
-
-fn push_after_blank(text: &mut Vec<u8>, word: &[u8]) -> Result<(), AllocError>
-    ensures { OnOk result (text.new.items ≡ text.old.items ++ after_blank word.now) }
-{
-    if word.is_empty() {
-        return Ok(());
-    }
-    push(text, b" ")?;
-    push(text, word)?;
-    Ok(())
-}
-
 fn front_of(heap: Global, at: usize, kind: &str) -> Result<String, AllocError>
     ensures { IfOk result (λ s. string_bytes s ≡ decimal at ++ (codes " " ++ kind.now)) }
 {
     format!(in heap; "{at} {kind}")
-}
-
-fn push_item(
-    heap: Global,
-    text: &mut Vec<u8>,
-    source: &[u8],
-    placed: Placed,
-) -> Result<(), AllocError>
-    ensures { OnOk result (text.new.items ≡ text.old.items ++ item_line source.now (item_of placed.entry)) }
-{
-    let front = front_of(heap, placed.at, kind_of(placed.token))?;
-    push(text, front.as_bytes())?;
-    push_after_blank(text, spelling_of(source, placed))?;
-    push(text, b"\n")?;
-    Ok(())
 }
 
 // Why the item at an index is refused, if it is.
@@ -110,21 +70,58 @@ fn reason_at(index: usize, token: Token) -> Option<Reason>
     }
 }
 
-fn push_line(
+// The listing of a source, as far as it is written.
+#[derive(Drop)]
+struct Draft<'a> {
     heap: Global,
-    text: &mut Vec<u8>,
-    source: &[u8],
-    index: usize,
-    placed: Placed,
-) -> Result<(), AllocError>
-    ensures { OnOk result (text.new.items ≡ text.old.items ++ line_by source.now (item_of placed.entry) (reason_at index (symbol_of placed.entry.token))) }
-{
-    match reason_at(index, placed.token) {
-        Some(reason) => {
-            let line = refusal_line(heap, source, reason, placed.at)?;
-            push(text, line.as_bytes())
+    source: &'a [u8],
+    text: Vec<u8>,
+}
+
+impl<'a> Draft<'a> {
+    fn push(&mut self, more: &[u8]) -> Result<(), AllocError>
+        ensures { OnOk result (Grows self.old self.new more.now) }
+    {
+        self.text.extend_from_slice(more)?;
+        Ok(())
+    }
+
+    fn push_after_blank(&mut self, word: &[u8]) -> Result<(), AllocError>
+        ensures { OnOk result (Grows self.old self.new (after_blank word.now)) }
+    {
+        if word.is_empty() {
+            return Ok(());
         }
-        None => push_item(heap, text, source, placed),
+        self.push(b" ")?;
+        self.push(word)?;
+        Ok(())
+    }
+
+    fn push_item(&mut self, placed: Placed) -> Result<(), AllocError>
+        ensures { OnOk result (Grows self.old self.new (item_line self.old.source.now (item_of placed.entry))) }
+    {
+        let front = front_of(self.heap, placed.at, kind_of(placed.token))?;
+        let spelling = spelling_of(self.source, placed);
+        self.push(front.as_bytes())?;
+        self.push_after_blank(spelling)?;
+        self.push(b"\n")?;
+        Ok(())
+    }
+
+    fn push_refusal(&mut self, reason: Reason, at: usize) -> Result<(), AllocError>
+        ensures { OnOk result (Grows self.old self.new (reason_line self.old.source.now reason at)) }
+    {
+        let line = reason.line(self.heap, self.source, at)?;
+        self.push(line.as_bytes())
+    }
+
+    fn push_line(&mut self, index: usize, placed: Placed) -> Result<(), AllocError>
+        ensures { OnOk result (Grows self.old self.new (line_by self.old.source.now (item_of placed.entry) (reason_at index (symbol_of placed.entry.token)))) }
+    {
+        match reason_at(index, placed.token) {
+            Some(reason) => self.push_refusal(reason, placed.at),
+            None => self.push_item(placed),
+        }
     }
 }
 
@@ -132,17 +129,19 @@ fn push_line(
 pub fn listing(heap: Global, source: &[u8]) -> Result<Vec<u8>, AllocError>
     ensures { IfOk result (λ v. (items : List Item) → Lexes 0 source.now items → v.items ≡ listing_of source.now items) }
 {
-    let mut text = Vec::new(heap);
+    let mut draft = Draft {
+        heap,
+        source,
+        text: Vec::new(heap),
+    };
     if source.len() > MOST_BYTES {
-        let line = refusal_line(heap, source, Reason::LongSource, MOST_BYTES)?;
-        push(&mut text, line.as_bytes())?;
-        return Ok(text);
+        draft.push_refusal(Reason::LongSource, MOST_BYTES)?;
+        return Ok(draft.text);
     }
     let mut list = TokenList::new(heap)?;
     list.fill(source);
-    let items = list.items();
-    for index in 0..items.len() {
-        push_line(heap, &mut text, source, index, items[index])?;
+    for (index, placed) in list.items().iter().enumerate() {
+        draft.push_line(index, *placed)?;
     }
-    Ok(text)
+    Ok(draft.text)
 }

@@ -1,20 +1,10 @@
 // Why a script is refused, and the line that says so.
-ghost use Rattle.std.specs.Prelude.{◌≡◌, IfOk, string_bytes};
-ghost use Rattle.lexemes.specs.Listing.{trouble_words, reason_number, reason_words, refusal_text, refusal_line};
+ghost use Rattle.std.specs.Prelude.{◌≡◌, IfOk, Some, string_bytes};
+ghost use Rattle.lexemes.specs.Listing.{reason_number, reason_words, reason_line};
 
-use position::{Position, position_of};
+use refusal_line::refusal_line;
 use std::alloc::{AllocError, Global};
 use tokens::Trouble;
-
-fn words_of(trouble: Trouble) -> &'static str
-    ensures { result.now ≡ trouble_words trouble }
-{
-    match trouble {
-        Trouble::NoToken => "no token begins with this byte",
-        Trouble::OpenComment => "this comment is never closed",
-        Trouble::LargeConstant => "this constant is above 9223372036854775807",
-    }
-}
 
 #[derive(Clone, Copy)]
 pub enum Reason {
@@ -24,6 +14,7 @@ pub enum Reason {
 }
 
 impl Reason {
+    // The number that the line shows.
     fn number(self) -> u8
         ensures { result ≡ reason_number self }
     {
@@ -40,35 +31,14 @@ impl Reason {
         match self {
             Reason::LongSource => "a script has at most 8,192 bytes",
             Reason::ManyTokens => "this is token 2,049, and a script has at most 2,048",
-            Reason::Trouble(trouble) => words_of(trouble),
+            Reason::Trouble(trouble) => trouble.words(),
         }
     }
-}
 
-fn refusal_text(
-    heap: Global,
-    position: Position,
-    number: u8,
-    at: usize,
-    words: &str,
-) -> Result<String, AllocError>
-    ensures { IfOk result (λ s. string_bytes s ≡ refusal_text position.line position.column number at words.now) }
-{
-    let line = position.line;
-    let column = position.column;
-    format!(in heap; "{line}:{column}: refused with {number} at offset {at}: {words}\n")
-}
-
-// The line that refuses the source at an offset.
-pub fn refusal_line(
-    heap: Global,
-    source: &[u8],
-    reason: Reason,
-    at: usize,
-) -> Result<String, AllocError>
-    ensures { IfOk result (λ s. string_bytes s ≡ refusal_line source.now reason at) }
-{
-    let position = position_of(source, at);
-    let line = refusal_text(heap, position, reason.number(), at, reason.words())?;
-    Ok(line)
+    // The line that refuses the source at an offset.
+    pub fn line(self, heap: Global, source: &[u8], at: usize) -> Result<String, AllocError>
+        ensures { IfOk result (λ s. string_bytes s ≡ reason_line source.now self at) }
+    {
+        refusal_line(heap, source, self.number(), at, self.words())
+    }
 }

@@ -1,7 +1,7 @@
 -- One byte more. Assumes nothing.
-use Rattle.std.proofs.Common.{◌≡◌, ℕ, ◌+◌, ◌<◌, ◌≤◌, min, cond, eqb, List, [], ◌∷◌, ◌++◌, length, get_or, take, sym, refl, ap, ◌∙◌, inl, inr, add-zero, add_assoc, zero-add, arith}
-use Rattle.std.proofs.lemmas.List.{take_more, take_all}
-use Rattle.std.proofs.lemmas.Bool.{cases_lt, eq-eqb, ne_eqb, cond-true, cond-false}
+use Rattle.std.proofs.Common.{◌≡◌, ℕ, ◌+◌, ◌<◌, cond, eqb, List, [], ◌∷◌, ◌++◌, length, get_or, take, sym, refl, ap, ◌∙◌, add-zero, add_assoc, zero-add}
+use Rattle.std.proofs.lemmas.List.{take_more}
+use Rattle.std.proofs.lemmas.Bool.{eq-eqb, ne_eqb, cond-true, cond-false}
 use Rattle.position.specs.Lines.{breaks, since_break}
 
 breaks_push : (xs : List ℕ) (b : ℕ) → breaks (xs ++ b ∷ []) ≡ breaks xs + cond (eqb b 10) 1 0
@@ -28,11 +28,3 @@ column_more bs i h not =
       ap breaks (take_more bs i 0 h) ∙ breaks_push (take i bs) (get_or bs i 0) ∙ ap (λ n. breaks (take i bs) + n) (cond-false _ 1 0 f) ∙ add-zero _,
       ap (since_break 0) (take_more bs i 0 h) ∙ since_push 0 (take i bs) (get_or bs i 0) ∙ cond-false _ _ _ f,
     )
-
--- a front that would pass the end is the whole text
-pub take_up_to : (n i : ℕ) (xs : List ℕ) → i ≡ min n (length xs) → take i xs ≡ take n xs
-take_up_to n i xs is =
-    elim (cases_lt n (length xs)) [
-      | inl h ↦ let e : i ≡ n = omega arith in ap (λ k. take k xs) e
-      | inr h ↦ let all : length xs ≤ i = omega arith in take_all i xs all ∙ sym (take_all n xs h)
-    ]

@@ -18,8 +18,8 @@ pub fn position_of(source: &[u8], offset: usize) -> Position
     let mut line: u64 = 0;
     let mut column: u64 = 0;
     let end = offset.min(source.len());
-    for i in 0..end {
-        if source[i] == b'\n' {
+    for b in &source[..end] {
+        if *b == b'\n' {
             line += 1;
             column = 0;
         } else {

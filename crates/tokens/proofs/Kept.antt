@@ -1,8 +1,7 @@
 -- What a list that is being filled has of the items to come. Assumes nothing.
-use Rattle.std.proofs.Common.{◌≡◌, suc, ◌-◌, ◌<◌, ◌≤◌, true, false, List, [], ◌∷◌, ◌++◌, map, length, take, sym, ap, ◌∙◌, append_assoc, append-nil, arith, length-append}
-use lib.Seq.{take-nil}
+use Rattle.std.proofs.Common.{◌≡◌, suc, ◌-◌, ◌<◌, false, List, [], ◌∷◌, ◌++◌, map, length, take, sym, ap, ◌∙◌, append_assoc, arith, length-append}
 use Rattle.std.proofs.lemmas.List.{map_push}
-use Rattle.std.proofs.lemmas.Bool.{cond-true, cond-false}
+use Rattle.std.proofs.lemmas.Bool.{cond-false}
 use Rattle.tokens.specs.declared.types.Placed.{Placed}
 use Rattle.tokens.specs.declared.lexer.Lexer.{Lexer}
 use Rattle.tokens.specs.Spelling.{Item, symbol_of, item_of}
@@ -26,19 +25,6 @@ sofar_more all list longer rest more p fits sofar first is =
     ∙ ap (λ l. l ++ take (2049 - length (list ++ p ∷ [])) more) (sym (map_push item_of list p))
     ∙ ap (λ l. map item_of l ++ take (2049 - length l) more) (sym is)
 
--- nothing fits any more
-pub sofar_full : (all : List Item) (list : List Placed) (rest : List Item) → 2049 ≤ length list → Sofar all list rest → map item_of list ≡ take 2049 all
-sofar_full all list rest full sofar =
-    let none : 2049 - length list ≡ 0 = omega arith in
-    sym (sofar ∙ ap (λ n. map item_of list ++ take n rest) none ∙ append-nil _)
-
--- nothing comes any more
-pub sofar_end : (all : List Item) (list : List Placed) → Sofar all list [] → map item_of list ≡ take 2049 all
-sofar_end all list sofar = sym (sofar ∙ ap (λ l. map item_of list ++ l) (take-nil (2049 - length list)) ∙ append-nil _)
-
--- the item that was handed out stands first, before those still to come or as the last
+-- the item that was handed out stands first, before those still to come
 pub token_first : (old new : Lexer) (p : Placed) → Took old p new → final (symbol_of p.token) ≡ false → to_come old ≡ item_of p ∷ to_come new
 token_first old new p took on = took.first ∙ ap (λ l. item_of p ∷ l) (cond-false _ [] (to_come new) on)
-
-pub last_first : (old new : Lexer) (p : Placed) → Took old p new → final (symbol_of p.token) ≡ true → to_come old ≡ item_of p ∷ []
-last_first old new p took last = took.first ∙ ap (λ l. item_of p ∷ l) (cond-true _ [] (to_come new) last)

@@ -1,70 +1,50 @@
--- What one turn of the loops over bytes keeps. Assumes nothing.
-use Rattle.std.proofs.Common.{◌≡◌, ℕ, suc, ◌+◌, ◌-◌, ◌*◌, ◌<◌, ◌≤◌, Bool, true, false, cond, ◌&&◌, eqb, List, [], ◌∷◌, length, get_or, drop, Some, None, Option, sym, refl, ap, ◌∙◌, ⊎_elim, add_assoc, suc-add, zero-add, arith}
-use Rattle.std.specs.Str.{bytes_eq}
-use Rattle.std.proofs.lemmas.List.{drop_more, drop_all}
-use Rattle.std.proofs.lemmas.Bool.{cases_Bool, cond-true, cond-false, le-leb, lt-leb}
-use Rattle.byte_class.specs.Classes.{class_of, letter, digit}
-use Rattle.byte_class.proofs.Says.{letter_class, digit_class}
-use Rattle.byte_class.specs.declared.Class.TheVariants.{Letter, Digit}
-use Rattle.tokens.specs.declared.types.Keyword.{Keyword}
-use Rattle.tokens.specs.Spelling.{wordy, reading, reading_from, keyword_text}
+-- Where a comment closes, and what one digit more makes. Assumes nothing.
+use Rattle.std.proofs.Common.{◌≡◌, ℕ, zero, suc, ◌+◌, ◌-◌, ◌*◌, ◌<◌, ◌≤◌, true, false, ◌&&◌, eqb, List, [], ◌∷◌, length, get_or, take, drop, Some, None, sym, refl, ap, ◌∙◌, ⊎_elim, arith, length-drop}
+use Rattle.std.proofs.lemmas.List.{take_all, drop_more}
+use Rattle.std.proofs.lemmas.Bool.{cases_Bool, cond-true, cond-false, le-leb, lt-leb, eq-eqb, eqb-true, and_from, and_right, and_parts}
+use Rattle.tokens.specs.Spelling.{reading, reading_from}
 use Rattle.tokens.specs.Lexing.{largest}
-use Rattle.tokens.specs.Scan.{run, starts, later, closing, keyword_among, value_of}
+use Rattle.tokens.specs.Scan.{starts, ClosesAt, later, closing, value_of}
 
--- a byte of another class is no letter and no digit
-pub not_wordy : (b : ℕ) → (class_of b ≡ Letter → ⊥) → (class_of b ≡ Digit → ⊥) → wordy b ≡ false
-not_wordy b not_letter not_digit =
+-- a comment closes at the front of a text, or it does not
+closes_here : (b : ℕ) (bs : List ℕ) → ClosesAt (b ∷ bs) 0 → (eqb b 42 && starts 47 bs) ≡ true
+closes_here b [] h = let long : 0 + 2 ≤ 1 = h.0 in absurd (omega arith)
+closes_here b (c ∷ cs) h = and_from _ _ (eq-eqb b 42 h.1) (eq-eqb c 47 h.2)
+
+closes_not : (b : ℕ) (bs : List ℕ) → ¬ ClosesAt (b ∷ bs) 0 → (eqb b 42 && starts 47 bs) ≡ false
+closes_not b [] h = and_right _ _ refl
+closes_not b (c ∷ cs) h =
     ⊎_elim
-    (λ is. absurd (not_letter (letter_class b is)))
-    (λ no_letter. cond-false (letter b) _ _ no_letter ∙ ⊎_elim (λ is. absurd (not_digit (digit_class b is))) (λ no_digit. no_digit) (cases_Bool (digit b)))
-    (cases_Bool (letter b))
+    (λ e. let is = and_parts (eqb b 42) (eqb c 47) e in absurd (h (omega arith, eqb-true b 42 is.0, eqb-true c 47 is.1)))
+    (λ e. e)
+    (cases_Bool (eqb b 42 && eqb c 47))
 
--- the byte at i passes, so the run goes on after it
-pub run_on : (p : ℕ → Bool) (bs : List ℕ) (i : ℕ) → i < length bs → p (get_or bs i 0) ≡ true → run p (drop i bs) ≡ 1 + run p (drop (i + 1) bs)
-unfolding run
-run_on p bs i h is = rw (drop_more bs i 0 h, is) (sym (suc-add 0 _ ∙ ap suc (zero-add _)))
+-- one byte more before a closing
+closes_less : (b : ℕ) (bs : List ℕ) (n : ℕ) → ClosesAt (b ∷ bs) (suc n) → ClosesAt bs n
+closes_less b bs n h = let e : suc n + 1 ≡ suc (n + 1) = omega arith in (omega arith, h.1, ap (λ k. get_or (b ∷ bs) k 0) (sym e) ∙ h.2)
 
--- the run ends before a byte that does not pass, and at the end
-pub run_off : (p : ℕ → Bool) (bs : List ℕ) (i : ℕ) → i < length bs → p (get_or bs i 0) ≡ false → run p (drop i bs) ≡ 0
-unfolding run
-run_off p bs i h is = rw (drop_more bs i 0 h, is) refl
+closes_more : (b : ℕ) (bs : List ℕ) (n : ℕ) → ClosesAt bs n → ClosesAt (b ∷ bs) (suc n)
+closes_more b bs n h = let e : suc n + 1 ≡ suc (n + 1) = omega arith in (omega arith, h.1, ap (λ k. get_or (b ∷ bs) k 0) e ∙ h.2)
 
-pub run_end : (p : ℕ → Bool) (bs : List ℕ) (i : ℕ) → length bs ≤ i → run p (drop i bs) ≡ 0
-unfolding run
-run_end p bs i h = rw (drop_all i bs h) refl
-
-pub starts_at : (x : ℕ) (bs : List ℕ) (i : ℕ) → i < length bs → starts x (drop i bs) ≡ eqb (get_or bs i 0) x
-starts_at x bs i h = ap (starts x) (drop_more bs i 0 h)
-
-pub starts_past : (x : ℕ) (bs : List ℕ) (i : ℕ) → length bs ≤ i → starts x (drop i bs) ≡ false
-starts_past x bs i h = ap (starts x) (drop_all i bs h)
-
-closing_at : (bs : List ℕ) (i : ℕ) → i < length bs → closing (drop i bs) ≡ cond (eqb (get_or bs i 0) 42 && starts 47 (drop (i + 1) bs)) (Some 0) (later 1 (closing (drop (i + 1) bs)))
+pub closing_some : (bs : List ℕ) (n : ℕ) → ClosesAt bs n → ((k : ℕ) → k < n → ¬ ClosesAt bs k) → closing bs ≡ Some n
 unfolding closing
-closing_at bs i h = rw (drop_more bs i 0 h) refl
+closing_some [] n h first = let long : n + 2 ≤ 0 = h.0 in absurd (omega arith)
+closing_some (b ∷ bs) zero h first = cond-true _ _ _ (closes_here b bs h)
+closing_some (b ∷ bs) (suc n) h first =
+    cond-false _ _ _ (closes_not b bs (first 0 (omega arith)))
+    ∙ ap (later 1) (closing_some bs n (closes_less b bs n h) (λ k below at. first (suc k) (omega arith) (closes_more b bs k at)))
+    ∙ ap Some (omega arith)
 
--- a comment closes here
-pub closing_here : (bs : List ℕ) (i : ℕ) → i < length bs → (eqb (get_or bs i 0) 42 && starts 47 (drop (i + 1) bs)) ≡ true → closing (drop i bs) ≡ Some 0
-closing_here bs i h is = closing_at bs i h ∙ cond-true _ _ _ is
-
--- a comment closes further on
-pub closing_on : (bs : List ℕ) (i : ℕ) → i < length bs → (eqb (get_or bs i 0) 42 && starts 47 (drop (i + 1) bs)) ≡ false → closing (drop i bs) ≡ later 1 (closing (drop (i + 1) bs))
-closing_on bs i h is = closing_at bs i h ∙ cond-false _ _ _ is
-
-pub closing_end : (bs : List ℕ) (i : ℕ) → length bs ≤ i → closing (drop i bs) ≡ None
+pub closing_none : (bs : List ℕ) → ((k : ℕ) → ¬ ClosesAt bs k) → closing bs ≡ None
 unfolding closing
-closing_end bs i h = rw (drop_all i bs h) refl
+closing_none [] never = refl
+closing_none (b ∷ bs) never =
+    cond-false _ _ _ (closes_not b bs (never 0))
+    ∙ ap (later 1) (closing_none bs (λ k at. never (suc k) (closes_more b bs k at)))
 
-pub later_later : (m n : ℕ) (o : Option ℕ) → later m (later n o) ≡ later (m + n) o
-later_later m n None = refl
-later_later m n (Some k) = ap Some (sym (add_assoc m n k))
-
--- the keyword at i is not the one that is spelled
-pub among_on : (ks : List Keyword) (i : ℕ) (d : Keyword) (w : List ℕ) → i < length ks → bytes_eq w (keyword_text (get_or ks i d)) ≡ false → keyword_among (drop i ks) w ≡ keyword_among (drop (i + 1) ks) w
-among_on ks i d w h is = ap (λ l. keyword_among l w) (drop_more ks i d h) ∙ cond-false _ _ _ is
-
-pub among_here : (ks : List Keyword) (i : ℕ) (d : Keyword) (w : List ℕ) → i < length ks → bytes_eq w (keyword_text (get_or ks i d)) ≡ true → keyword_among (drop i ks) w ≡ Some (get_or ks i d)
-among_here ks i d w h is = ap (λ l. keyword_among l w) (drop_more ks i d h) ∙ cond-true _ _ _ is
+-- what the code cuts out after the first byte
+pub all_but_first : (bs : List ℕ) → take (length bs - 1) (drop 1 bs) ≡ drop 1 bs
+all_but_first bs = let long = length-drop 1 bs in take_all (length bs - 1) (drop 1 bs) (omega arith)
 
 -- one digit more
 pub reading_on : (n : ℕ) (ds : List ℕ) (i : ℕ) → i < length ds → reading_from n (drop i ds) ≡ reading_from (n * 10 + (get_or ds i 0 - 48)) (drop (i + 1) ds)

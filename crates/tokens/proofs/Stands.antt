@@ -2,6 +2,7 @@
 use Rattle.std.proofs.Common.{◌≡◌, ℕ, true, false, ◌⊎◌, List, [], ◌∷◌, ◌++◌, length, take, drop, Some, None, codes, Option, sym, refl, ap, ◌∙◌, subst, inl, inr, ⊎_elim, arith, length-append, take-append-drop}
 use Rattle.std.proofs.lemmas.Bool.{cond_both, cond-true, cond-false, both_ways, eq-eqb}
 use Rattle.std.proofs.lemmas.List.{append-nil, nil_from_length}
+use Rattle.std.specs.List.{prefix_len}
 use Rattle.byte_class.specs.Classes.{class_of, letter, digit, blank}
 use Rattle.byte_class.specs.declared.Class.{Class}
 use Rattle.byte_class.specs.declared.Class.TheVariants as class
@@ -12,7 +13,7 @@ use Rattle.tokens.specs.declared.types.Mark.TheVariants.{LeftParen, RightParen, 
 use Rattle.tokens.specs.declared.types.Trouble.TheVariants.{NoToken, LargeConstant}
 use Rattle.tokens.specs.Spelling.{Symbol, constant, mark, end, trouble, mark_text, wordy, reading, Spells, a_mark, a_constant}
 use Rattle.tokens.specs.Lexing.{Longest, NothingBegins}
-use Rattle.tokens.specs.Scan.{run, starts, keyword_of, closing, Front, gap, found, stop, word_symbol, comment_by, one, one_or_two, two, front_by, front}
+use Rattle.tokens.specs.Scan.{starts, keyword_of, closing, Front, gap, found, stop, word_symbol, comment_by, one, one_or_two, two, front_by, front}
 use Rattle.tokens.proofs.Comments.{starts_is}
 use Rattle.tokens.proofs.Spelled.{token_by, Taken, spelled_front, spelled_taken, not_empty, starting, front_by_lem, number_token, all_run, run_longest, word_reach, number_reach, word_spells}
 
@@ -28,7 +29,7 @@ word_stands : (b : ℕ) (bs : List ℕ) → letter b ≡ true → Stands (b ∷ 
 word_stands b bs h = token_first w (drop n bs) (word_symbol w (keyword_of w)) (ap (λ l. b ∷ l) (sym (take-append-drop n bs))) (run_longest wordy b bs _ (word_spells b (take n bs) h (all_run wordy bs)) (word_reach b (letter_class b h))) (is (keyword_of w))
   where
     n : ℕ
-    n = run wordy bs
+    n = prefix_len wordy bs
 
     w : List ℕ
     w = b ∷ take n bs
@@ -41,7 +42,7 @@ number_stands : (b : ℕ) (bs : List ℕ) → digit b ≡ true → Stands (b ∷
 number_stands b bs h = token_first w (drop n bs) (constant (reading w)) (ap (λ l. b ∷ l) (sym (take-append-drop n bs))) (run_longest digit b bs _ (a_constant b (take n bs) h (all_run digit bs)) (number_reach b (digit_class b h))) (number_token (length w) w)
   where
     n : ℕ
-    n = run digit bs
+    n = prefix_len digit bs
 
     w : List ℕ
     w = b ∷ take n bs

@@ -1,13 +1,14 @@
 -- What one turn of the scan does: how far it goes, and the items that it leaves. Assumes nothing.
 use Rattle.std.proofs.Common.{◌≡◌, ℕ, zero, suc, ◌+◌, ◌<◌, ◌≤◌, true, false, ◌&&◌, eqb, List, [], ◌∷◌, length, take, drop, Some, None, Option, refl, ap, ◌∙◌, subst, arith, length-drop, length-take}
 use Rattle.std.proofs.lemmas.Bool.{cond_both, and_parts}
+use Rattle.std.specs.List.{prefix_len}
 use Rattle.byte_class.specs.Classes.{class_of, digit}
 use Rattle.byte_class.specs.declared.Class.{Class}
 use Rattle.byte_class.specs.declared.Class.TheVariants as class
 use Rattle.tokens.specs.declared.types.Keyword.{Keyword}
 use Rattle.tokens.specs.declared.types.Mark.{Mark}
 use Rattle.tokens.specs.Spelling.{Symbol, item, wordy}
-use Rattle.tokens.specs.Scan.{run, starts, value_of, later, closing, keyword_of, Front, gap, found, stop, word_symbol, number_by, comment_by, one_or_two, two, front_by, front, items_by, lexed_by, lexed, final}
+use Rattle.tokens.specs.Scan.{starts, value_of, later, closing, keyword_of, Front, gap, found, stop, word_symbol, number_by, comment_by, one_or_two, two, front_by, front, items_by, lexed_by, lexed, final}
 
 -- what stands first passes a byte at least, and n bytes at most; it is a token, or it is the last item
 abbrev Passes : ℕ → Front → Type 0
@@ -28,7 +29,7 @@ later_within : (n : ℕ) (o : Option ℕ) → Within n o → Within (suc n) (lat
 later_within n None h = tt
 later_within n (Some k) h = omega arith
 
-pub closing_within : (bs : List ℕ) → Within (length bs) (closing bs)
+closing_within : (bs : List ℕ) → Within (length bs) (closing bs)
 unfolding closing
 closing_within [] = tt
 closing_within (b ∷ bs) =
@@ -67,8 +68,8 @@ slash_passes b [] = refl
 slash_passes b (c ∷ bs) = cond_both (starts 42 (c ∷ bs)) _ _ (Passes (suc (suc (length bs)))) (λ e. comment_passes (length bs) (closing bs) (closing_within bs)) (λ e. refl)
 
 by_passes : (c : Class) (b : ℕ) (bs : List ℕ) → Passes (suc (length bs)) (front_by c b bs)
-by_passes class.Letter b bs = (omega arith, front_fits (run wordy bs) bs, word_goes_on _ (keyword_of (b ∷ take (run wordy bs) bs)))
-by_passes class.Digit b bs = number_passes (suc (length bs)) _ (value_of (b ∷ take (run digit bs) bs)) (omega arith) (front_fits (run digit bs) bs)
+by_passes class.Letter b bs = (omega arith, front_fits (prefix_len wordy bs) bs, word_goes_on _ (keyword_of (b ∷ take (prefix_len wordy bs) bs)))
+by_passes class.Digit b bs = number_passes (suc (length bs)) _ (value_of (b ∷ take (prefix_len digit bs) bs)) (omega arith) (front_fits (prefix_len digit bs) bs)
 by_passes class.Blank b bs = (omega arith, omega arith)
 by_passes class.LeftParen b bs = one_passes (length bs)
 by_passes class.RightParen b bs = one_passes (length bs)
@@ -111,7 +112,7 @@ drop_shorter : (k n : ℕ) (bs : List ℕ) → 0 < k → k ≤ length bs → len
 drop_shorter k n bs l h f = simp length-drop (omega arith)
 
 -- turns beyond the length change nothing
-pub enough_turns : (n m at : ℕ) (bs : List ℕ) → length bs < n → length bs < m → lexed_by n at bs ≡ lexed_by m at bs
+enough_turns : (n m at : ℕ) (bs : List ℕ) → length bs < n → length bs < m → lexed_by n at bs ≡ lexed_by m at bs
 unfolding lexed_by
 enough_turns zero m at bs f g = absurd (omega arith)
 enough_turns (suc n) zero at bs f g = absurd (omega arith)

@@ -1,5 +1,6 @@
 -- The items of a source, computed. Assumes nothing.
-use Rattle.std.specs.Prelude.{ℕ, zero, suc, ◌+◌, Bool, true, false, cond, ◌&&◌, List, [], ◌∷◌, length, take, drop, Some, None, Option, ◌==◌, nat_le}
+use Rattle.std.specs.Prelude.{◌≡◌, ℕ, ◌≤◌, slice_index, zero, suc, ◌+◌, Bool, true, false, cond, ◌&&◌, List, [], ◌∷◌, length, drop, Some, None, Option, ◌==◌, nat_le}
+use Rattle.std.specs.List.{find, take_while}
 use Rattle.std.specs.Str.{bytes_eq}
 use Rattle.byte_class.specs.Classes.{class_of, digit}
 use Rattle.byte_class.specs.declared.Class.{Class}
@@ -8,21 +9,13 @@ use Rattle.tokens.specs.declared.types.Keyword.{Keyword}
 use Rattle.tokens.specs.declared.types.Keyword.TheVariants.{Mutable, Int, Ref, Q, If, Else, While, Free, Print, Return, Nil}
 use Rattle.tokens.specs.declared.types.Mark.{Mark}
 use Rattle.tokens.specs.declared.types.Mark.TheVariants.{LeftParen, RightParen, LeftBrace, RightBrace, Comma, Semicolon, Assign, Plus, Minus, Star, Dot, Less, Greater, LessEqual, GreaterEqual, EqualEqual, NotEqual, Not, AndAnd, OrOr}
-use Rattle.tokens.specs.declared.types.Run.{Run}
-use Rattle.tokens.specs.declared.types.Run.TheVariants.{Word, Digits}
 use Rattle.tokens.specs.declared.types.Trouble.TheVariants.{NoToken, OpenComment, LargeConstant}
 use Rattle.tokens.specs.Spelling.{Symbol, name, constant, keyword, mark, end, trouble, Item, item, keyword_text, wordy, reading}
 use Rattle.tokens.specs.Lexing.{largest}
 
--- the bytes of a run
-abbrev pub taking : Run → ℕ → Bool
-taking Word b = wordy b
-taking Digits b = digit b
-
--- how many bytes at the front pass a test
-unfoldable pub run : (ℕ → Bool) → List ℕ → ℕ
-run p [] = 0
-run p (b ∷ bs) = cond (p b) (suc (run p bs)) 0
+-- calls that may answer so of a byte answer as the test does
+abbrev pub Answers : (ℕ → Bool → Type 0) → (ℕ → Bool) → Type 0
+Answers gives p = (b : ℕ) (r : Bool) → gives b r → r ≡ p b
 
 -- the byte stands first
 abbrev pub starts : ℕ → List ℕ → Bool
@@ -33,17 +26,17 @@ starts x (b ∷ bs) = b == x
 abbrev pub keywords : List Keyword
 keywords = Mutable ∷ Int ∷ Ref ∷ Q ∷ If ∷ Else ∷ While ∷ Free ∷ Print ∷ Return ∷ Nil ∷ []
 
--- the keyword of a list that is spelled so
-abbrev pub keyword_among : List Keyword → List ℕ → Option Keyword
-keyword_among [] bs = None
-keyword_among (k ∷ ks) bs = cond (bytes_eq bs (keyword_text k)) (Some k) (keyword_among ks bs)
-
+-- the keyword that is spelled so
 unfoldable pub keyword_of : List ℕ → Option Keyword
-keyword_of bs = keyword_among keywords bs
+keyword_of bs = find (λ k. bytes_eq bs (keyword_text k)) keywords
 
 -- the value of a constant that is small enough
 unfoldable pub value_of : List ℕ → Option ℕ
 value_of ds = cond (nat_le (reading ds) largest) (Some (reading ds)) None
+
+-- a comment closes after so many bytes
+abbrev pub ClosesAt : List ℕ → ℕ → Type 0
+ClosesAt bs n = (n + 2 ≤ length bs) × (slice_index bs n ≡ 42) × (slice_index bs (n + 1) ≡ 47)
 
 -- so many bytes further on
 abbrev pub later : ℕ → Option ℕ → Option ℕ
@@ -97,8 +90,8 @@ two x n bs = cond (starts x bs) (found 2 (mark n)) (stop (trouble NoToken))
 
 -- what begins with a byte of the class, by that byte and the text after it
 abbrev pub front_by : Class → ℕ → List ℕ → Front
-front_by class.Letter b bs = word (b ∷ take (run wordy bs) bs)
-front_by class.Digit b bs = number (b ∷ take (run digit bs) bs)
+front_by class.Letter b bs = word (b ∷ take_while wordy bs)
+front_by class.Digit b bs = number (b ∷ take_while digit bs)
 front_by class.Blank b bs = gap 1
 front_by class.LeftParen b bs = one LeftParen
 front_by class.RightParen b bs = one RightParen

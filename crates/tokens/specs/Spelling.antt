@@ -48,29 +48,6 @@ mark_text Not = codes "!"
 mark_text AndAnd = codes "&&"
 mark_text OrOr = codes "||"
 
--- the number of a mark, by which marks are told apart
-abbrev pub mark_number : Mark → ℕ
-mark_number LeftParen = 0
-mark_number RightParen = 1
-mark_number LeftBrace = 2
-mark_number RightBrace = 3
-mark_number Comma = 4
-mark_number Semicolon = 5
-mark_number Assign = 6
-mark_number Plus = 7
-mark_number Minus = 8
-mark_number Star = 9
-mark_number Dot = 10
-mark_number Less = 11
-mark_number Greater = 12
-mark_number LessEqual = 13
-mark_number GreaterEqual = 14
-mark_number EqualEqual = 15
-mark_number NotEqual = 16
-mark_number Not = 17
-mark_number AndAnd = 18
-mark_number OrOr = 19
-
 -- what a token stands for: a name by its bytes, a constant by its value, a keyword, a mark; then the end of the source, and why no token could be taken
 pub data Symbol : Type 0 where
   name : List ℕ → Symbol
@@ -130,3 +107,9 @@ abbrev pub trouble_number : Trouble → ℕ
 trouble_number NoToken = 2
 trouble_number OpenComment = 2
 trouble_number LargeConstant = 3
+
+-- why no token could be taken, in words
+abbrev pub trouble_words : Trouble → List ℕ
+trouble_words NoToken = codes "no token begins with this byte"
+trouble_words OpenComment = codes "this comment is never closed"
+trouble_words LargeConstant = codes "this constant is above 9223372036854775807"

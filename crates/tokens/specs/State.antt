@@ -1,5 +1,5 @@
 -- What a lexer has before it, and what taking a token does. Assumes nothing.
-use Rattle.std.specs.Prelude.{◌≡◌, ℕ, ◌+◌, ◌<◌, ◌≤◌, true, cond, List, [], ◌∷◌, map, length, take, drop, slice_index}
+use Rattle.std.specs.Prelude.{◌≡◌, ℕ, ◌+◌, ◌<◌, ◌≤◌, true, cond, List, [], ◌∷◌, map, length, take, drop}
 use Rattle.tokens.specs.declared.types.Ahead.{Ahead}
 use Rattle.tokens.specs.declared.types.Ahead.TheVariants.{Gap, Found, Stop}
 use Rattle.tokens.specs.declared.types.Placed.{Placed}
@@ -16,17 +16,6 @@ front_of (Stop t) = stop (symbol_of t)
 -- the text from the lexer's place on
 abbrev pub rest : Lexer → List ℕ
 rest l = drop l.pos l.source.now
-
--- the byte at the lexer's place, and the text after it
-abbrev pub here : Lexer → ℕ
-here l = slice_index l.source.now l.pos
-
-abbrev pub beyond : Lexer → List ℕ
-beyond l = drop (l.pos + 1) l.source.now
-
--- a byte stands at the lexer's place
-abbrev pub Inside : Lexer → Type 0
-Inside l = l.pos < length l.source.now
 
 -- what stands here is not empty, and ends within the source
 abbrev pub Advances : Lexer → Ahead → Type 0

@@ -1,8 +1,9 @@
 // The tokens of a source.
 #![tactic(auto)]
 
-mod equal;
+mod begun;
 mod fill;
+mod front;
 mod lexer;
 mod list;
 mod scan;

@@ -1,8 +1,9 @@
-// The spelling of keywords and marks, and the number of a trouble.
-ghost use Rattle.std.specs.Prelude.{◌≡◌};
-ghost use Rattle.tokens.specs.Spelling.{keyword_text, mark_text, trouble_number};
+// The spelling of keywords and marks, and the number and the words of a trouble. Tables, since a derive knows only the names in the code.
+ghost use Rattle.std.specs.Prelude.{◌≡◌, Some};
+ghost use Rattle.tokens.specs.Spelling.{keyword_text, mark_text, trouble_number, trouble_words};
 
 use crate::types::{Keyword, Mark, Trouble};
+use std::fmt;
 
 impl Keyword {
     pub fn text(self) -> &'static [u8]
@@ -62,5 +63,23 @@ impl Trouble {
             Trouble::NoToken | Trouble::OpenComment => 2,
             Trouble::LargeConstant => 3,
         }
+    }
+
+    pub fn words(self) -> &'static str
+        ensures { result.now ≡ trouble_words self }
+    {
+        match self {
+            Trouble::NoToken => "no token begins with this byte",
+            Trouble::OpenComment => "this comment is never closed",
+            Trouble::LargeConstant => "this constant is above 9223372036854775807",
+        }
+    }
+}
+
+impl fmt::Display for Trouble {
+    ghost output = { λ t. Some (trouble_words t) };
+
+    fn fmt<W: fmt::Write>(&self, f: &mut fmt::Formatter<W>) -> fmt::Result {
+        f.write_str(self.words())
     }
 }

@@ -15,7 +15,7 @@ pub enum Keyword {
     Nil,
 }
 
-#[derive(Clone, Copy, Debug)]
+#[derive(Clone, Copy, Debug, PartialEq, Eq)]
 pub enum Mark {
     LeftParen,
     RightParen,
@@ -62,13 +62,6 @@ pub enum Token<'a> {
 pub struct Placed<'a> {
     pub token: Token<'a>,
     pub at: usize,
-}
-
-// A run of bytes that is taken as far as it goes.
-#[derive(Clone, Copy)]
-pub(crate) enum Run {
-    Word,
-    Digits,
 }
 
 // What stands at a place of the source: so many bytes to skip, a token of so many bytes, or the end or a trouble.

@@ -1,11 +1,11 @@
 // The parts of a token that are longer than a mark: words, constants, and the comments between tokens.
-ghost use Rattle.std.specs.Prelude.{◌≡◌, ◌+◌, ◌≤◌, length, drop, IfSome};
+ghost use Rattle.std.specs.Prelude.{◌≡◌, ℕ, ◌+◌, ◌<◌, ◌↔◌, IsTrue, IfSome, IfNone, codes};
 ghost use Rattle.std.specs.Str.{bytes_eq};
 ghost use Rattle.byte_class.specs.Classes.{digit};
-ghost use Rattle.tokens.specs.Spelling.{wordy};
-ghost use Rattle.tokens.specs.Scan.{taking, run, keyword_of, value_of, closing};
+ghost use Rattle.tokens.specs.Spelling.{keyword_text, wordy};
+ghost use Rattle.tokens.specs.Scan.{ClosesAt, keyword_of, value_of};
 
-use crate::types::{Keyword, Run};
+use crate::types::Keyword;
 use byte_class::{Class, class_at};
 
 const LARGEST: u128 = 9223372036854775807;
@@ -24,78 +24,47 @@ const KEYWORDS: [Keyword; 11] = [
     Keyword::Nil,
 ];
 
-fn is_word_byte(b: u8) -> bool
+pub(crate) fn is_word_byte(b: u8) -> bool
     ensures { result ≡ wordy b }
 {
-    match class_at(b) {
-        Class::Letter | Class::Digit => true,
-        _ => false,
-    }
+    matches!(class_at(b), Class::Letter | Class::Digit)
 }
 
-fn is_digit(b: u8) -> bool
+pub(crate) fn is_digit(b: u8) -> bool
     ensures { result ≡ digit b }
 {
-    match class_at(b) {
-        Class::Digit => true,
-        _ => false,
-    }
+    matches!(class_at(b), Class::Digit)
 }
 
-fn takes(kind: Run, b: u8) -> bool
-    ensures { result ≡ taking kind b }
+fn is_closing(pair: &[u8]) -> bool
+    ensures { IsTrue result ↔ (pair.now ≡ codes "*/") }
 {
-    match kind {
-        Run::Word => is_word_byte(b),
-        Run::Digits => is_digit(b),
-    }
-}
-
-// How long the run at `at` is.
-pub(crate) fn run_len(source: &[u8], at: usize, kind: Run) -> usize
-    requires { at ≤ length source.now }
-    ensures value { result ≡ run (taking kind) (drop at source.now) }
-    ensures within { at + result ≤ length source.now }
-{
-    let mut i = at;
-    while i < source.len() && takes(kind, source[i]) {
-        i += 1;
-    }
-    i - at
+    pair == b"*/".as_slice()
 }
 
 // How many bytes of a comment that was opened stand before its first closing.
-pub(crate) fn body_len(source: &[u8], at: usize) -> Option<usize>
-    requires { at ≤ length source.now }
-    ensures value { result ≡ closing (drop at source.now) }
-    ensures within { IfSome result (λ n. at + n + 2 ≤ length source.now) }
+pub(crate) fn body_len(text: &[u8]) -> Option<usize>
+    ensures some { IfSome result (λ n. ClosesAt text.now n × ((k : ℕ) → k < n → ¬ ClosesAt text.now k)) }
+    ensures none { IfNone result ((k : ℕ) → ¬ ClosesAt text.now k) }
 {
-    let mut i = at;
-    while i < source.len() {
-        if source[i] == b'*' && i + 1 < source.len() && source[i + 1] == b'/' {
-            return Some(i - at);
-        }
-        i += 1;
-    }
-    None
+    text.windows(2).position(|pair| is_closing(pair))
 }
 
-fn same(a: &[u8], b: &[u8]) -> bool
-    ensures { result ≡ bytes_eq a.now b.now }
+fn is_spelled(keyword: Keyword, word: &[u8]) -> bool
+    ensures { result ≡ bytes_eq word.now (keyword_text keyword) }
 {
-    a == b
+    keyword.text() == word
 }
 
 // The keyword that is spelled so, if one is.
+#[tactic(auto, unfolding(crate::specs::Scan::keyword_of))]
 pub(crate) fn keyword_of(word: &[u8]) -> Option<Keyword>
     ensures { result ≡ keyword_of word.now }
 {
-    for k in KEYWORDS {
-        if same(word, k.text()) {
-            return Some(k);
-        }
-    }
-    None
+    KEYWORDS
+        .iter()
+        .copied()
+        .find(|keyword| is_spelled(*keyword, word))
 }
 
 // The value of a run of digits, unless it is above the largest.
@@ -104,7 +73,7 @@ pub(crate) fn value_of(digits: &[u8]) -> Option<u64>
 {
     let mut value = 0;
     for d in digits {
-        let next = value as u128 * 10 + d.saturating_sub(b'0') as u128;
+        let next = u128::from(value) * 10 + u128::from(d.saturating_sub(b'0'));
         if next > LARGEST {
             return None;
         }

@@ -1,9 +1,11 @@
 // Each source of a table is lexed, and what its items are is compared as text: kind, spelling and offset of each.
 use byte_class::{class_at, class_by_formula};
 use position::{Position, position_of};
+use refusal_line::refusal_line;
 use std::alloc::{AllocError, Global};
 use std::test::Fail;
-use tokens::{Lexer, Placed, Token, TokenList, Trouble};
+use text_check::check_text;
+use tokens::{Keyword, Lexer, Mark, Placed, Token, TokenList, Trouble};
 
 fn trouble_text(trouble: Trouble) -> &'static str {
     match trouble {
@@ -48,13 +50,6 @@ fn items_text(heap: Global, source: &[u8]) -> Result<String, AllocError> {
         text.push_str(&item_text(heap, *placed)?)?;
     }
     Ok(text)
-}
-
-fn check_text(text: &str, expected: &str, what: &str) -> Result<(), Fail> {
-    if text == expected {
-        return Ok(());
-    }
-    Err(Fail::new(format_args!("{what}: {text:?}, not {expected:?}")))
 }
 
 fn check_items(heap: Global, source: &[u8], items: &str, what: &str) -> Result<(), Fail> {
@@ -293,4 +288,51 @@ fn positions(rt: HostRuntime) {
             "offset {offset} of {source:?}"
         );
     }
+}
+
+#[test]
+fn lines_of_refusals(rt: HostRuntime) -> Result<(), Fail> {
+    let heap = rt.alloc();
+    let rows = [
+        (
+            "ab\ncd @",
+            6,
+            Trouble::NoToken,
+            "2:4: refused with 2 at offset 6: no token begins with this byte\n",
+        ),
+        (
+            "a /*",
+            2,
+            Trouble::OpenComment,
+            "1:3: refused with 2 at offset 2: this comment is never closed\n",
+        ),
+        (
+            "9223372036854775808",
+            0,
+            Trouble::LargeConstant,
+            "1:1: refused with 3 at offset 0: this constant is above 9223372036854775807\n",
+        ),
+    ];
+    for (source, at, trouble, expected) in rows {
+        let words = format!(in heap; "{trouble}")?;
+        check_text(words.as_str(), trouble.words(), "a trouble that is shown")?;
+        let line = refusal_line(
+            heap,
+            source.as_bytes(),
+            trouble.number(),
+            at,
+            words.as_str(),
+        )?;
+        check_text(line.as_str(), expected, source)?;
+    }
+    Ok(())
+}
+
+#[test]
+fn marks_are_told_apart(rt: HostRuntime) {
+    let less = Token::Mark(Mark::Less);
+    assert!(rt; less.is_mark(Mark::Less));
+    assert!(rt; !less.is_mark(Mark::LessEqual));
+    assert!(rt; !Token::Keyword(Keyword::If).is_mark(Mark::Less));
+    assert!(rt; !Token::End.is_mark(Mark::Less));
 }

@@ -12,13 +12,6 @@ returns-then-next-gt-LARGEST c =
     let grown = reading_grows (c.loop-d.value * 10 + (get_or ds i 0 - 48)) (drop (i + 1) ds) in
     sym (value_large ds (omega (arith, on, grown)))
 
-pub loop-d-preserved : goal.loop-d-preserved
-loop-d-preserved c =
-    let ds = c.args.digits.now in
-    let i = c.loop-d.d-index in
-    let digit = ap (λ d. reading_from (c.loop-d.value * 10 + d) (drop (i + 1) ds)) (sym c.saturating_sub.ensures) in
-    (omega arith, c.loop-d.invariant.1 ∙ reading_on c.loop-d.value ds i c.loop-d-test.true ∙ digit)
-
 pub returns : goal.returns
 returns c =
     let ds = c.args.digits.now in
