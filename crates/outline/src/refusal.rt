@@ -6,9 +6,7 @@ use std::alloc::{AllocError, Global};
 fn words(reason: Reason) -> &'static str {
     match reason {
         Reason::TooLong => "a script has at most 8,192 bytes",
-        Reason::NoToken => "no token begins with this byte",
-        Reason::OpenComment => "this comment is never closed",
-        Reason::LargeConstant => "this constant is above 9223372036854775807",
+        Reason::Trouble(trouble) => trouble.words(),
         Reason::Wrong => "no program goes on like this",
         Reason::TooDeep =>
             "this stands inside more than 64 parentheses, braces, prefixes and bodies",

@@ -1,10 +1,10 @@
 -- The statements by their first token. Assumes nothing.
 use Rattle.std.proofs.Common.{◌≡◌, ℕ, zero, suc, ◌-◌, ◌<◌, true, false, length, refl, ap, sub-one, arith}
-use Rattle.std.proofs.lemmas.Bool.{eqb-true}
 use Rattle.script.specs.Tree as tree
 use Rattle.script.specs.Tree.{Stmt}
 use Rattle.tokens.specs.declared.types.Keyword.TheVariants as word
 use Rattle.tokens.specs.declared.types.Mark.TheVariants as sign
+use Rattle.tokens.specs.declared.types.Token.TheVariants.{Keyword as AKeyword, Mark as AMark}
 use Rattle.tokens.specs.Spelling.{item_of, keyword, mark}
 use Rattle.grammar.specs.Combine.{Parser, after, ret, on, want, kind_at, is}
 use Rattle.grammar.specs.Parse.{is_name, name_of, expression, condition, ended, declaration, assignment, otherwise, tests, statement, statements}
@@ -13,7 +13,12 @@ use Rattle.reader.specs.declared.cursor.Cursor.{Cursor}
 use Rattle.reader.specs.Cursor.{left}
 use Rattle.reader.specs.Reading.{Passed, NotPassed, Refused}
 use Rattle.reader.specs.Statements.{Leads}
+use Rattle.reader.proofs.Steps.{kind_of}
 use Rattle.reader.proofs.Says.{Opens, first_takes, first_leaves, first_stops}
+
+-- the kind of no token that a statement but a declaration begins with
+abbrev pub IsOther : ℕ → Type 0
+IsOther k = (is (keyword word.If) k ≡ false) × (is (keyword word.While) k ≡ false) × (is (keyword word.Free) k ≡ false) × (is (keyword word.Print) k ≡ false) × (is (keyword word.Return) k ≡ false) × (is (mark sign.LeftBrace) k ≡ false)
 
 -- what is tried from each test on
 abbrev braced : ℕ → ℕ → Parser Stmt
@@ -78,43 +83,43 @@ module _ (d : ℕ) (c : Cursor) where
     pub takes_name : is_name (kind_at (left c)) ≡ true → Passed d c i → Leads 1 (λ g. statement g d) c (λ g. assignment d g (expression g d) (expression g (suc d)) (name_of (item_of c.here))) i
     takes_name h w = first_takes _ _ _ _ opens h w
 
-    pub takes_if : is (keyword word.If) (kind_at (left c)) ≡ true → Passed d c i → Leads 1 (λ g. statement g d) c (λ g. tests d (condition true g (suc d)) (statement g (suc d)) (otherwise d c.here.at (statement g (suc d)))) i
-    takes_if h w = let k = eqb-true _ _ h in first_takes _ _ _ _ (to_if (ap is_name k)) h w
+    pub takes_if : c.here.token ≡ AKeyword word.If → Passed d c i → Leads 1 (λ g. statement g d) c (λ g. tests d (condition true g (suc d)) (statement g (suc d)) (otherwise d c.here.at (statement g (suc d)))) i
+    takes_if h w = first_takes _ _ _ _ (to_if (ap (λ t. is_name (kind_of t)) h)) (ap (λ t. is (keyword word.If) (kind_of t)) h) w
 
-    pub takes_while : is (keyword word.While) (kind_at (left c)) ≡ true → Passed d c i → Leads 1 (λ g. statement g d) c (λ g. tests d (condition true g (suc d)) (statement g (suc d)) (λ x y. ret (tree.while c.here.at x y))) i
-    takes_while h w = let k = eqb-true _ _ h in first_takes _ _ _ _ (to_while (ap is_name k) (ap (is (keyword word.If)) k)) h w
+    pub takes_while : c.here.token ≡ AKeyword word.While → Passed d c i → Leads 1 (λ g. statement g d) c (λ g. tests d (condition true g (suc d)) (statement g (suc d)) (λ x y. ret (tree.while c.here.at x y))) i
+    takes_while h w = first_takes _ _ _ _ (to_while (ap (λ t. is_name (kind_of t)) h) (ap (λ t. is (keyword word.If) (kind_of t)) h)) (ap (λ t. is (keyword word.While) (kind_of t)) h) w
 
-    pub takes_free : is (keyword word.Free) (kind_at (left c)) ≡ true → Passed d c i → Leads 1 (λ g. statement g d) c (λ g. ended d (expression g d) (tree.free c.here.at)) i
-    takes_free h w = let k = eqb-true _ _ h in first_takes _ _ _ _ (to_free (ap is_name k) (ap (is (keyword word.If)) k) (ap (is (keyword word.While)) k)) h w
+    pub takes_free : c.here.token ≡ AKeyword word.Free → Passed d c i → Leads 1 (λ g. statement g d) c (λ g. ended d (expression g d) (tree.free c.here.at)) i
+    takes_free h w = first_takes _ _ _ _ (to_free (ap (λ t. is_name (kind_of t)) h) (ap (λ t. is (keyword word.If) (kind_of t)) h) (ap (λ t. is (keyword word.While) (kind_of t)) h)) (ap (λ t. is (keyword word.Free) (kind_of t)) h) w
 
-    pub takes_print : is (keyword word.Print) (kind_at (left c)) ≡ true → Passed d c i → Leads 1 (λ g. statement g d) c (λ g. ended d (expression g d) (tree.print c.here.at)) i
-    takes_print h w = let k = eqb-true _ _ h in first_takes _ _ _ _ (to_print (ap is_name k) (ap (is (keyword word.If)) k) (ap (is (keyword word.While)) k) (ap (is (keyword word.Free)) k)) h w
+    pub takes_print : c.here.token ≡ AKeyword word.Print → Passed d c i → Leads 1 (λ g. statement g d) c (λ g. ended d (expression g d) (tree.print c.here.at)) i
+    takes_print h w = first_takes _ _ _ _ (to_print (ap (λ t. is_name (kind_of t)) h) (ap (λ t. is (keyword word.If) (kind_of t)) h) (ap (λ t. is (keyword word.While) (kind_of t)) h) (ap (λ t. is (keyword word.Free) (kind_of t)) h)) (ap (λ t. is (keyword word.Print) (kind_of t)) h) w
 
-    pub takes_return : is (keyword word.Return) (kind_at (left c)) ≡ true → Passed d c i → Leads 1 (λ g. statement g d) c (λ g. ended d (expression g d) (tree.return c.here.at)) i
-    takes_return h w = let k = eqb-true _ _ h in first_takes _ _ _ _ (to_return (ap is_name k) (ap (is (keyword word.If)) k) (ap (is (keyword word.While)) k) (ap (is (keyword word.Free)) k) (ap (is (keyword word.Print)) k)) h w
+    pub takes_return : c.here.token ≡ AKeyword word.Return → Passed d c i → Leads 1 (λ g. statement g d) c (λ g. ended d (expression g d) (tree.return c.here.at)) i
+    takes_return h w = first_takes _ _ _ _ (to_return (ap (λ t. is_name (kind_of t)) h) (ap (λ t. is (keyword word.If) (kind_of t)) h) (ap (λ t. is (keyword word.While) (kind_of t)) h) (ap (λ t. is (keyword word.Free) (kind_of t)) h) (ap (λ t. is (keyword word.Print) (kind_of t)) h)) (ap (λ t. is (keyword word.Return) (kind_of t)) h) w
 
-    pub takes_brace : is (mark sign.LeftBrace) (kind_at (left c)) ≡ true → Passed d c i → Leads 1 (λ g. statement g d) c (λ g. after (statements g (suc d)) (λ x. want d sign.RightBrace (ret (tree.block c.here.at x)))) i
-    takes_brace h w = let k = eqb-true _ _ h in first_takes _ _ _ _ (to_brace (ap is_name k) (ap (is (keyword word.If)) k) (ap (is (keyword word.While)) k) (ap (is (keyword word.Free)) k) (ap (is (keyword word.Print)) k) (ap (is (keyword word.Return)) k)) h w
+    pub takes_brace : c.here.token ≡ AMark sign.LeftBrace → Passed d c i → Leads 1 (λ g. statement g d) c (λ g. after (statements g (suc d)) (λ x. want d sign.RightBrace (ret (tree.block c.here.at x)))) i
+    takes_brace h w = first_takes _ _ _ _ (to_brace (ap (λ t. is_name (kind_of t)) h) (ap (λ t. is (keyword word.If) (kind_of t)) h) (ap (λ t. is (keyword word.While) (kind_of t)) h) (ap (λ t. is (keyword word.Free) (kind_of t)) h) (ap (λ t. is (keyword word.Print) (kind_of t)) h) (ap (λ t. is (keyword word.Return) (kind_of t)) h)) (ap (λ t. is (mark sign.LeftBrace) (kind_of t)) h) w
 
   -- the first token of a statement was not passed
   module _ {r : ReadRefusal} (n : NotPassed d c r) where
     pub stops_name : is_name (kind_at (left c)) ≡ true → Refused (λ g. statement g d) c r
     stops_name h = first_stops _ _ _ _ opens h n
 
-    pub stops_if : is (keyword word.If) (kind_at (left c)) ≡ true → Refused (λ g. statement g d) c r
-    stops_if h = let k = eqb-true _ _ h in first_stops _ _ _ _ (to_if (ap is_name k)) h n
+    pub stops_if : c.here.token ≡ AKeyword word.If → Refused (λ g. statement g d) c r
+    stops_if h = first_stops _ _ _ _ (to_if (ap (λ t. is_name (kind_of t)) h)) (ap (λ t. is (keyword word.If) (kind_of t)) h) n
 
-    pub stops_while : is (keyword word.While) (kind_at (left c)) ≡ true → Refused (λ g. statement g d) c r
-    stops_while h = let k = eqb-true _ _ h in first_stops _ _ _ _ (to_while (ap is_name k) (ap (is (keyword word.If)) k)) h n
+    pub stops_while : c.here.token ≡ AKeyword word.While → Refused (λ g. statement g d) c r
+    stops_while h = first_stops _ _ _ _ (to_while (ap (λ t. is_name (kind_of t)) h) (ap (λ t. is (keyword word.If) (kind_of t)) h)) (ap (λ t. is (keyword word.While) (kind_of t)) h) n
 
-    pub stops_free : is (keyword word.Free) (kind_at (left c)) ≡ true → Refused (λ g. statement g d) c r
-    stops_free h = let k = eqb-true _ _ h in first_stops _ _ _ _ (to_free (ap is_name k) (ap (is (keyword word.If)) k) (ap (is (keyword word.While)) k)) h n
+    pub stops_free : c.here.token ≡ AKeyword word.Free → Refused (λ g. statement g d) c r
+    stops_free h = first_stops _ _ _ _ (to_free (ap (λ t. is_name (kind_of t)) h) (ap (λ t. is (keyword word.If) (kind_of t)) h) (ap (λ t. is (keyword word.While) (kind_of t)) h)) (ap (λ t. is (keyword word.Free) (kind_of t)) h) n
 
-    pub stops_print : is (keyword word.Print) (kind_at (left c)) ≡ true → Refused (λ g. statement g d) c r
-    stops_print h = let k = eqb-true _ _ h in first_stops _ _ _ _ (to_print (ap is_name k) (ap (is (keyword word.If)) k) (ap (is (keyword word.While)) k) (ap (is (keyword word.Free)) k)) h n
+    pub stops_print : c.here.token ≡ AKeyword word.Print → Refused (λ g. statement g d) c r
+    stops_print h = first_stops _ _ _ _ (to_print (ap (λ t. is_name (kind_of t)) h) (ap (λ t. is (keyword word.If) (kind_of t)) h) (ap (λ t. is (keyword word.While) (kind_of t)) h) (ap (λ t. is (keyword word.Free) (kind_of t)) h)) (ap (λ t. is (keyword word.Print) (kind_of t)) h) n
 
-    pub stops_return : is (keyword word.Return) (kind_at (left c)) ≡ true → Refused (λ g. statement g d) c r
-    stops_return h = let k = eqb-true _ _ h in first_stops _ _ _ _ (to_return (ap is_name k) (ap (is (keyword word.If)) k) (ap (is (keyword word.While)) k) (ap (is (keyword word.Free)) k) (ap (is (keyword word.Print)) k)) h n
+    pub stops_return : c.here.token ≡ AKeyword word.Return → Refused (λ g. statement g d) c r
+    stops_return h = first_stops _ _ _ _ (to_return (ap (λ t. is_name (kind_of t)) h) (ap (λ t. is (keyword word.If) (kind_of t)) h) (ap (λ t. is (keyword word.While) (kind_of t)) h) (ap (λ t. is (keyword word.Free) (kind_of t)) h) (ap (λ t. is (keyword word.Print) (kind_of t)) h)) (ap (λ t. is (keyword word.Return) (kind_of t)) h) n
 
-    pub stops_brace : is (mark sign.LeftBrace) (kind_at (left c)) ≡ true → Refused (λ g. statement g d) c r
-    stops_brace h = let k = eqb-true _ _ h in first_stops _ _ _ _ (to_brace (ap is_name k) (ap (is (keyword word.If)) k) (ap (is (keyword word.While)) k) (ap (is (keyword word.Free)) k) (ap (is (keyword word.Print)) k) (ap (is (keyword word.Return)) k)) h n
+    pub stops_brace : c.here.token ≡ AMark sign.LeftBrace → Refused (λ g. statement g d) c r
+    stops_brace h = first_stops _ _ _ _ (to_brace (ap (λ t. is_name (kind_of t)) h) (ap (λ t. is (keyword word.If) (kind_of t)) h) (ap (λ t. is (keyword word.While) (kind_of t)) h) (ap (λ t. is (keyword word.Free) (kind_of t)) h) (ap (λ t. is (keyword word.Print) (kind_of t)) h) (ap (λ t. is (keyword word.Return) (kind_of t)) h)) (ap (λ t. is (mark sign.LeftBrace) (kind_of t)) h) n

@@ -30,8 +30,8 @@ pub record Chained {X : Type 0} (F : ℕ → ℕ → X → Parser X) (code_of : 
   pub within : start ≤ vec_len p.nodes
   pub onto : (x : X) (front : List Node) → vec_items o.nodes ≡ front ++ code_of x → length front ≡ start → Sofar F code_of x front s t p
 
-pub stay : {s : Cursor} {o : Code} → s.taken ≤ 2048 → Moved 0 s s o o
-stay f = record { on = omega arith; few = f; fall = omega arith; spent = omega arith; grown = omega arith; cap = omega arith; functions = refl; formals = refl }
+pub stay : {s : Cursor} {o : Code} → Moved 0 s s o o
+stay = record { on = omega arith; fall = omega arith; spent = omega arith; grown = omega arith; cap = omega arith; functions = refl; formals = refl }
 
 -- the rest of a chain, p reads the right sides
 abbrev pub rest_of : {X : Type 0} → ℕ → (ℕ → Bool) → (ℕ → Parser X) → (Item → X → X → X) → ℕ → ℕ → X → Parser X
@@ -67,7 +67,7 @@ module _ {X : Type 0} (d : ℕ) (test : ℕ → Bool) (p : ℕ → Parser X) (co
       → ((x : X) (front : List Node) → vec_items o.nodes ≡ front ++ code_of x → length front ≡ start → vec_items u.nodes ≡ front ++ code_of (combine (item_of s.here) x y))
       → Chained (rest_of d test p combine) code_of start s0 t o0 u
   turn {b} {t} {u} y f q m e mo codes = record {
-    moved = moved_by (and (moves so.moved) (moves mo)) (omega (arith, so.moved.on, so.moved.few)) (omega arith);
+    moved = moved_by (and (moves so.moved) (moves mo)) (omega arith);
     within = omega (arith, so.within, mo.grown);
     onto = λ x front h n.
         let a = so.onto x front h n in

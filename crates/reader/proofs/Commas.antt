@@ -16,7 +16,8 @@ use Rattle.reader.specs.Cursor.{left}
 use Rattle.reader.specs.Reading.{Passed, NotPassed, Refused, Passes, Expects}
 use Rattle.reader.specs.Statements.{Leads}
 use Rattle.reader.specs.Functions.{Kept, Listing, OneFormal, ReadsFormals}
-use Rattle.reader.proofs.Says.{on_true, on_false, passed_one, at_start, takes, leaves, stops, goes_on, breaks, wants, unwanted}
+use Rattle.reader.proofs.Steps.{shorter, on_passed, on_other}
+use Rattle.reader.proofs.Says.{at_start, takes, leaves, stops, goes_on, breaks, wants, unwanted}
 use Rattle.reader.proofs.Turns.{together, together_more, go_none, go_more}
 
 abbrev pub cons : Declarator → List Declarator → List Declarator
@@ -56,26 +57,26 @@ pub record Parted (c e : Cursor) (o p : Code) : Type 0 where
   pub fall : length (left e) + turns ≤ length (left c)
   pub listing : Listing c e o p list
 
-pub same_room : (c : Cursor) (o : Code) → c.taken ≤ 2048 → Kept c c o o
-same_room c o few = record { on = omega arith; few = few; fall = omega arith; nodes = omega arith; formals = omega arith; functions = omega arith; grown_formals = omega arith; cap_nodes = omega arith; cap_formals = omega arith; cap_functions = omega arith }
+pub same_room : (c : Cursor) (o : Code) → Kept c c o o
+same_room c o = record { on = omega arith; fall = omega arith; nodes = omega arith; formals = omega arith; functions = omega arith; grown_formals = omega arith; cap_nodes = omega arith; cap_formals = omega arith; cap_functions = omega arith }
 
-pub listing_none : (c : Cursor) (o : Code) → c.taken ≤ 2048 → Listing c c o o []
-listing_none c o few = record { kept = same_room c o few; nodes = sym (append-nil _); formals = sym (append-nil _); functions = refl }
+pub listing_none : (c : Cursor) (o : Code) → Listing c c o o []
+listing_none c o = record { kept = same_room c o; nodes = sym (append-nil _); formals = sym (append-nil _); functions = refl }
 
-pub parted_none : (c : Cursor) (o : Code) → c.taken ≤ 2048 → Parted c c o o
-parted_none c o few = record {
+pub parted_none : (c : Cursor) (o : Code) → Parted c c o o
+parted_none c o = record {
   list = [];
   turns = 0;
   is = λ g lt. ap (λ n. commas n (left c)) (sym (sub-zero g)) ∙ go_none _;
   fall = omega arith;
-  listing = listing_none c o few;
+  listing = listing_none c o;
 }
 
 pub kept_both : {c e i : Cursor} {o p q : Code} → Kept c e o p → Kept e i p q → Kept c i o q
-kept_both a b = record { on = omega arith; few = b.few; fall = omega arith; nodes = omega arith; formals = omega arith; functions = omega arith; grown_formals = omega arith; cap_nodes = omega arith; cap_formals = omega arith; cap_functions = omega arith }
+kept_both a b = record { on = omega arith; fall = omega arith; nodes = omega arith; formals = omega arith; functions = omega arith; grown_formals = omega arith; cap_nodes = omega arith; cap_formals = omega arith; cap_functions = omega arith }
 
 pub kept_passed : {d : ℕ} {c e i : Cursor} {o p : Code} → Kept c e o p → Passed d e i → Kept c i o p
-kept_passed a w = let n = passed_one w in record { on = omega arith; few = omega arith; fall = omega arith; nodes = omega arith; formals = omega arith; functions = omega arith; grown_formals = omega arith; cap_nodes = omega arith; cap_formals = omega arith; cap_functions = omega arith }
+kept_passed a w = let n = shorter w in record { on = omega arith; fall = omega arith; nodes = omega arith; formals = omega arith; functions = omega arith; grown_formals = omega arith; cap_nodes = omega arith; cap_formals = omega arith; cap_functions = omega arith }
 
 pub listing_both : {c e i : Cursor} {o p q : Code} {xs ys : List Declarator} → Listing c e o p xs → Listing e i p q ys → Listing c i o q (xs ++ ys)
 listing_both {o = o} {xs = xs} {ys = ys} a b = record {
@@ -102,17 +103,17 @@ module _ {c e i : Cursor} {o p q : Code} (t : Parted c e o p) (one : OneFormal e
         let f = t.fall in
         let s : g - t.turns - 1 ≡ g - (t.turns + 1) = omega arith in
         came g lt
-        ∙ ap (λ v. go v (λ y. ret (together (λ x xs. x ∷ xs) t.list y))) (on_true 1 (is (mark sign.Comma)) (λ k. after (commas (g - t.turns - 1)) (λ xs. ret (one.formal ∷ xs))) (ret (one.formal ∷ [])) i j h w ∙ after_go _ _ _)
+        ∙ ap (λ v. go v (λ y. ret (together (λ x xs. x ∷ xs) t.list y))) (on_passed 1 i (is (mark sign.Comma)) (λ k. after (commas (g - t.turns - 1)) (λ xs. ret (one.formal ∷ xs))) (ret (one.formal ∷ [])) h w ∙ after_go _ _ _)
         ∙ go_more (λ x xs. x ∷ xs) t.list one.formal _
         ∙ ap (λ n. go (commas n (left j)) (λ y. ret (together (λ x xs. x ∷ xs) (t.list ++ (one.formal ∷ [])) y))) s;
-    fall = omega (arith, t.fall, one.shorter, passed_one w);
+    fall = omega (arith, t.fall, one.shorter, shorter w);
     listing = listing_passed (listing_both t.listing one.listing) w;
   }
 
   pub parted_all : is (mark sign.Comma) (kind_at (left i)) ≡ false → (g : ℕ) → length (left c) < g → commas g (left c) ≡ out_done (t.list ++ (one.formal ∷ [])) (left i)
   parted_all h g lt =
       came g lt
-      ∙ ap (λ v. go v (λ y. ret (together (λ x xs. x ∷ xs) t.list y))) (on_false 1 (is (mark sign.Comma)) (λ k. after (commas (g - t.turns - 1)) (λ xs. ret (one.formal ∷ xs))) (ret (one.formal ∷ [])) i h)
+      ∙ ap (λ v. go v (λ y. ret (together (λ x xs. x ∷ xs) t.list y))) (on_other 1 i (is (mark sign.Comma)) (λ k. after (commas (g - t.turns - 1)) (λ xs. ret (one.formal ∷ xs))) (ret (one.formal ∷ [])) h)
       ∙ ap (λ y. out_done y (left i)) (sym (together_more (λ x xs. x ∷ xs) t.list one.formal []) ∙ together_self _)
 
   pub parted_stops : {r : ReadRefusal} → is (mark sign.Comma) (kind_at (left i)) ≡ true → NotPassed 1 i r → Refused commas c r
@@ -157,11 +158,11 @@ module _ (c : Cursor) (open' : is (mark sign.RightParen) (kind_at (left c)) ≡ 
       unwanted _ _ _ (goes_on _ _ some_formals {i = i} (t.list ++ (one.formal ∷ [])) (parted_all t one h) (listing_both t.listing one.listing).kept.fall) x
 
 -- no formals
-pub formals_none : (r : Result (Unit {0}) ReadRefusal) (c j : Cursor) (o : Code) → c.taken ≤ 2048 → is (mark sign.RightParen) (kind_at (left c)) ≡ true → Passes 0 c j r → ReadsFormals c j o o r
-formals_none (Ok y) c j o few h w = record {
+pub formals_none : (r : Result (Unit {0}) ReadRefusal) (c j : Cursor) (o : Code) → is (mark sign.RightParen) (kind_at (left c)) ≡ true → Passes 0 c j r → ReadsFormals c j o o r
+formals_none (Ok y) c j o h w = record {
   list = [];
   is = (takes _ _ _ _ (at_start formals c) {i = j} h w).is;
-  listing = listing_passed (listing_none c o few) w;
+  listing = listing_passed (listing_none c o) w;
   some = omega (arith, w.taken);
 }
-formals_none (Err b) c j o few h n = stops _ _ _ _ (at_start formals c) h n
+formals_none (Err b) c j o h n = stops _ _ _ _ (at_start formals c) h n

@@ -1,6 +1,5 @@
 -- Conditions: what each way of reading one comes to. Assumes nothing.
-use Rattle.std.proofs.Common.{◌≡◌, ℕ, suc, ◌+◌, ◌-◌, ◌<◌, ◌≤◌, Bool, true, false, cond, List, [], ◌∷◌, ◌++◌, length, Ok, Err, vec_items, vec_len, Result, sym, refl, ap, ◌∙◌, subst, append_assoc, add-one, arith, length-append}
-use Rattle.std.proofs.lemmas.Bool.{eq-eqb, ne_eqb}
+use Rattle.std.proofs.Common.{◌≡◌, ℕ, suc, ◌+◌, ◌-◌, ◌<◌, ◌≤◌, Bool, true, false, cond, List, [], ◌∷◌, ◌++◌, length, Some, ◌==◌, Ok, Err, vec_items, vec_len, Result, sym, refl, ap, ◌∙◌, subst, append_assoc, add-one, arith, length-append}
 use Rattle.script.specs.declared.types.Comparison.{Comparison}
 use Rattle.script.specs.declared.types.Node.{Node}
 use Rattle.script.specs.declared.types.Node.TheVariants as node
@@ -11,15 +10,18 @@ use Rattle.tokens.specs.declared.types.Mark.TheVariants.{Not, AndAnd, OrOr}
 use Rattle.tokens.specs.Spelling.{Item, mark}
 use Rattle.grammar.specs.Tokens.{Tok, first}
 use Rattle.grammar.specs.Combine.{why_bad, Parser, kind_at, is, bad, ret}
-use Rattle.grammar.specs.Parse.{Thing as Either, thing_expr, thing_cond, Found, found, holds, expression, negation, tested, compared, compares, comparison_of, condition_by, joins, joining, join_of}
+use Rattle.grammar.specs.Parse.{Thing as Either, thing_expr, thing_cond, Found, found, holds, expression, negation, tested, compared, compares, comparison_of, condition_by, joins, join_of}
 use Rattle.reader.specs.declared.refusal.ReadRefusal.{ReadRefusal}
 use Rattle.reader.specs.declared.cursor.Cursor.{Cursor}
 use Rattle.reader.specs.declared.code.Code.{Code}
 use Rattle.reader.specs.declared.code.Thing.{Thing}
 use Rattle.reader.specs.declared.code.Thing.TheVariants.{Expression, Condition}
+use Rattle.reader.specs.declared.binding.Join.{Join}
+use Rattle.reader.specs.declared.binding.Join.TheVariants.{And, Or}
+use Rattle.reader.specs.Binding.{join_rank, join_node}
 use Rattle.reader.specs.Cursor.{left}
 use Rattle.reader.specs.Reading.{Refusal, Passed, NotPassed}
-use Rattle.reader.specs.Terms.{Wrote, Inserted, Stops, Gave, Gives, Followed, Halts, Compares, levels, conditions, joining_on, join_node, flat_got, got_is, flat_found, found_is}
+use Rattle.reader.specs.Terms.{Wrote, Inserted, Stops, Gave, Gives, Followed, Halts, Compares, levels, conditions, joining_on, flat_got, got_is, flat_found, found_is}
 use Rattle.reader.proofs.Steps.{on_passed, on_stuck, on_other, after_done, after_fail, why_of, told_of, shorter, at_suc}
 use Rattle.reader.proofs.Paths.{moves, and, pass, wrote, inserts, moved_by, some_by, insert_at, around}
 use Rattle.reader.proofs.Chains.{Chained, stay, turn, chain_done, chain_stuck, chain_broke}
@@ -46,15 +48,15 @@ module _ (must : Bool) (d : ℕ) {from : ℕ} {c : Cursor} {o : Code} where
     told = k.told;
   }
 
-  pub compared_done : {b t : Cursor} {o1 o2 p : Code} {y : Thing} {op : Comparison} → c.taken ≤ 2048 → compares (kind_at (left c)) ≡ true → op ≡ comparison_of (first (left c)) → Passed d c b → Inserted from (node.Begin c.here.at) o o1
+  pub compared_done : {b t : Cursor} {o1 o2 p : Code} {y : Thing} {op : Comparison} → compares (kind_at (left c)) ≡ true → op ≡ comparison_of (first (left c)) → Passed d c b → Inserted from (node.Begin c.here.at) o o1
       → Gave 0 (λ g. levels false 3 g d) (flat_got false) (got_is false) b t o1 o2 y → Wrote (node.Compare op) o2 p
       → Followed (λ g x. tested must d (expression g d) (thing_expr x)) flat (flat_found must) (λ t. Condition ≡ found_is must t) from c t o p
-  compared_done {b} {t} {o1} {o2} {p} {y} {op} few h is_op s w k v =
+  compared_done {b} {t} {o1} {o2} {p} {y} {op} h is_op s w k v =
       let r = k.went in
       let op' = comparison_of (first (left c)) in
       let v' : Wrote (node.Compare op') o2 p = subst (λ op. Wrote (node.Compare op) o2 p) is_op v in
       record {
-        moved = moved_by (and (pass s) (and (inserts w) (and (moves r.moved) (wrote v)))) few (omega arith);
+        moved = moved_by (and (pass s) (and (inserts w) (and (moves r.moved) (wrote v)))) (omega arith);
         onto = λ x front e j. record {
           tree = found must (tree.compare c.here.at op' x r.tree);
           is = λ g l. let sh = shorter s in tested_form must d _ x _ ∙ on_passed d c _ _ _ h s ∙ after_done _ _ _ (at_suc (λ g. expression g d (left b)) _ _ r.is g (omega arith));
@@ -68,11 +70,11 @@ module _ (must : Bool) (d : ℕ) {from : ℕ} {c : Cursor} {o : Code} where
 
 pub compared_wrong : (must : Bool) (d from : ℕ) {c : Cursor} {o : Code} {r : ReadRefusal} → must ≡ true → compares (kind_at (left c)) ≡ false → Refusal (left c) why_bad r → Halts {Y = Found must} (λ g x. tested must d (expression g d) (thing_expr x)) flat from c o r
 compared_wrong true d from {c} m h t = record { rest = left c; why = why_bad; is = λ x front e k g l. on_other d c _ _ _ h; told = t }
-compared_wrong false d from {c} m h t = absurd (let z : ◌≡◌ {A = ℕ} 0 1 = cc in omega arith)
+compared_wrong false d from {c} m h t = cc
 
-pub compared_none : (must : Bool) (d from : ℕ) {c : Cursor} {o : Code} → c.taken ≤ 2048 → must ≡ false → compares (kind_at (left c)) ≡ false → Followed (λ g x. tested must d (expression g d) (thing_expr x)) flat (flat_found must) (λ t. Expression ≡ found_is must t) from c c o o
-compared_none true d from {c} few m h = absurd (let z : ◌≡◌ {A = ℕ} 0 1 = cc in omega arith)
-compared_none false d from {c} few m h = record { moved = stay few; onto = λ x front e k. record { tree = thing_expr x; is = λ g l. on_other d c _ _ _ h; code = e; thing = refl } }
+pub compared_none : (must : Bool) (d from : ℕ) {c : Cursor} {o : Code} → must ≡ false → compares (kind_at (left c)) ≡ false → Followed (λ g x. tested must d (expression g d) (thing_expr x)) flat (flat_found must) (λ t. Expression ≡ found_is must t) from c c o o
+compared_none true d from {c} m h = cc
+compared_none false d from {c} m h = record { moved = stay; onto = λ x front e k. record { tree = thing_expr x; is = λ g l. on_other d c _ _ _ h; code = e; thing = refl } }
 
 -- a negation
 module _ (must : Bool) (d : ℕ) {c : Cursor} where
@@ -89,9 +91,9 @@ module _ (must : Bool) (d : ℕ) {c : Cursor} where
         told = k.told;
       }
 
-  pub not_done : {b t : Cursor} {o o1 o2 p : Code} {y : Thing} → c.taken ≤ 2048 → is (mark Not) (kind_at (left c)) ≡ true → Passed d c b → Wrote (node.Begin c.here.at) o o1
+  pub not_done : {b t : Cursor} {o o1 o2 p : Code} {y : Thing} → is (mark Not) (kind_at (left c)) ≡ true → Passed d c b → Wrote (node.Begin c.here.at) o o1
       → Gave 0 (λ g. negation true (suc g) (d + 1)) (flat_found true) (found_is true) b t o1 o2 y → Wrote node.Not o2 p → Gave 0 (λ g. negation must (suc g) d) (flat_found must) (found_is must) c t o p Condition
-  not_done {b} {t} {o} {o1} {o2} {p} {y} few h s w k' v =
+  not_done {b} {t} {o} {o1} {o2} {p} {y} h s w k' v =
       let k : Gave 0 (λ g. negation true (suc g) (suc d)) (flat_found true) (found_is true) b t o1 o2 y = subst (λ d. Gave 0 (λ g. negation true (suc g) d) (flat_found true) (found_is true) b t o1 o2 y) (add-one d) k' in
       let r = k.went in
       let path = and (pass s) (and (wrote w) (and (moves r.moved) (wrote v))) in
@@ -100,7 +102,7 @@ module _ (must : Bool) (d : ℕ) {c : Cursor} where
           tree = found must (tree.negated c.here.at r.tree);
           is = λ g l. let sh = shorter s in negation_step must g d _ ∙ on_passed d c _ _ _ h s ∙ after_done _ _ _ (at_suc (λ g. negation true g (suc d) (left b)) _ _ r.is g (omega arith));
           code = around (flat_cond r.tree) w r.code v ∙ ap (λ l. vec_items o.nodes ++ l) (sym (flat_found_lem must _));
-          moved = moved_by path few (omega arith);
+          moved = moved_by path (omega arith);
           some = some_by 0 path (omega arith);
         };
         thing = is_found must _;
@@ -129,8 +131,8 @@ module _ (must : Bool) (d : ℕ) {c : Cursor} where
             thing = is_found must a.0;
           }
 
-      pub thing_expression : {from : ℕ} (e : Cursor) (q : Code) (r : Result Thing ReadRefusal) → c.taken ≤ 2048 → y ≡ Expression → from ≡ vec_len o.nodes → Compares must d from b e p q r → Gives 0 (λ g. negation must (suc g) d) (flat_found must) (found_is must) c e o q r
-      thing_expression {from} e q (Ok z) few h here f =
+      pub thing_expression : {from : ℕ} (e : Cursor) (q : Code) (r : Result Thing ReadRefusal) → y ≡ Expression → from ≡ vec_len o.nodes → Compares must d from b e p q r → Gives 0 (λ g. negation must (suc g) d) (flat_found must) (found_is must) c e o q r
+      thing_expression {from} e q (Ok z) h here f =
           let w = k.went in
           let a = as_expression true w.tree (sym h ∙ k.thing) in
           let n = f.onto a.0 (vec_items o.nodes) (w.code ∙ ap (λ l. vec_items o.nodes ++ l) (ap (flat_got true) a.1)) (sym (here ∙ o.nodes.ok.0)) in
@@ -140,12 +142,12 @@ module _ (must : Bool) (d : ℕ) {c : Cursor} where
               tree = n.tree;
               is = λ g l. thing_is (thing_expr a.0) a.1 g l ∙ n.is g (omega (arith, w.moved.fall));
               code = n.code;
-              moved = moved_by path few (omega arith);
+              moved = moved_by path (omega arith);
               some = omega (arith, w.some, f.moved.on);
             };
             thing = n.thing;
           }
-      thing_expression {from} e q (Err r) few h here f =
+      thing_expression {from} e q (Err r) h here f =
           let w = k.went in
           let a = as_expression true w.tree (sym h ∙ k.thing) in
           record {
@@ -195,8 +197,8 @@ module _ (must : Bool) (n d : ℕ) {c b : Cursor} {o p : Code} {y : Thing} (some
       told = k.told;
     }
 
-    pub conditions_done : {e : Cursor} {q : Code} → c.taken ≤ 2048 → Followed (λ g. joining_on d n g g) flat_cond flat_cond (λ _. Unit {0}) from b e p q → Gave 0 (λ g. conditions must n g d) (flat_found must) (found_is must) c e o q Condition
-    conditions_done {e} {q} few k =
+    pub conditions_done : {e : Cursor} {q : Code} → Followed (λ g. joining_on d n g g) flat_cond flat_cond (λ _. Unit {0}) from b e p q → Gave 0 (λ g. conditions must n g d) (flat_found must) (found_is must) c e o q Condition
+    conditions_done {e} {q} k =
         let a = k.onto head.0 (vec_items o.nodes) head_code (sym (here ∙ o.nodes.ok.0)) in
         let w = first'.went in
         let path = and (moves w.moved) (moves k.moved) in
@@ -205,7 +207,7 @@ module _ (must : Bool) (n d : ℕ) {c b : Cursor} {o p : Code} {y : Thing} (some
             tree = found must a.tree;
             is = λ g l. head_is g l ∙ holds_done must _ head.0 (left b) (a.is (suc g) (enough g l));
             code = a.code ∙ ap (λ l. vec_items o.nodes ++ l) (sym (flat_found_lem must a.tree));
-            moved = moved_by path few (omega arith);
+            moved = moved_by path (omega arith);
             some = omega (arith, w.some, k.moved.on);
           };
           thing = is_found must a.tree;
@@ -218,36 +220,36 @@ join_by i c e = join_of i.symbol i.at c e
 abbrev pub other_of : ℕ → ℕ → ℕ → Parser Cond
 other_of d n g = condition_by true d g (negation true g d) (negation true g d) (n - 1)
 
-join_code : (a b : Bool) (n at : ℕ) (x y : Cond) → cond a 1 (cond b 2 0) ≡ n → 0 < n → flat_cond (cond a (tree.both at x y) (tree.either at x y)) ≡ node.Begin at ∷ (flat_cond x ++ (join_node n (length (flat_cond y)) ∷ flat_cond y))
-join_code true b n at x y h l = rw (sym h) refl
-join_code false true n at x y h l = rw (sym h) refl
-join_code false false n at x y h l = absurd (omega arith)
+join_code : (a b : Bool) (j : Join) (at : ℕ) (x y : Cond) → (cond a 1 (cond b 2 0) == join_rank (Some j)) ≡ true → flat_cond (cond a (tree.both at x y) (tree.either at x y)) ≡ node.Begin at ∷ (flat_cond x ++ (join_node j (length (flat_cond y)) ∷ flat_cond y))
+join_code true b And at x y h = refl
+join_code true b Or at x y h = cc
+join_code false true And at x y h = cc
+join_code false true Or at x y h = refl
+join_code false false And at x y h = cc
+join_code false false Or at x y h = cc
 
-module _ (d n : ℕ) {from : ℕ} {s0 s : Cursor} {o0 o : Code} (so : Chained (joining_on d n) flat_cond from s0 s o0 o) where
-  pub joins_done : {v : ℕ} → v ≡ joining (kind_at (left s)) → (v ≡ n → ⊥) → Followed (λ g. joining_on d n g g) flat_cond flat_cond (λ _. Unit {0}) from s0 s o0 o
-  joins_done h f = chain_done d (joins n) (other_of d n) join_by so (ne_eqb (joining (kind_at (left s))) n (λ e. f (h ∙ e)))
+module _ (d : ℕ) (j : Join) {from : ℕ} {s0 s : Cursor} {o0 o : Code} (so : Chained (joining_on d (join_rank (Some j))) flat_cond from s0 s o0 o) where
+  pub joins_done : joins (join_rank (Some j)) (kind_at (left s)) ≡ false → Followed (λ g. joining_on d (join_rank (Some j)) g g) flat_cond flat_cond (λ _. Unit {0}) from s0 s o0 o
+  joins_done h = chain_done d (joins (join_rank (Some j))) (other_of d (join_rank (Some j))) join_by so h
 
-  module _ {v : ℕ} (h : v ≡ joining (kind_at (left s))) (is_n : v ≡ n) where
-    here' : joins n (kind_at (left s)) ≡ true
-    here' = eq-eqb (joining (kind_at (left s))) n (sym h ∙ is_n)
+  module _ (here' : joins (join_rank (Some j)) (kind_at (left s)) ≡ true) where
+    pub joins_stuck : {r : ReadRefusal} → NotPassed d s r → Halts (λ g. joining_on d (join_rank (Some j)) g g) flat_cond from s0 o0 r
+    joins_stuck k = chain_stuck d (joins (join_rank (Some j))) (other_of d (join_rank (Some j))) join_by so here' k
 
-    pub joins_stuck : {r : ReadRefusal} → NotPassed d s r → Halts (λ g. joining_on d n g g) flat_cond from s0 o0 r
-    joins_stuck k = chain_stuck d (joins n) (other_of d n) join_by so here' k
+    pub joins_broke : {b : Cursor} {r : ReadRefusal} → Passed d s b → Stops (λ g. conditions true (join_rank (Some j) - 1) g d) b r → Halts (λ g. joining_on d (join_rank (Some j)) g g) flat_cond from s0 o0 r
+    joins_broke q k = chain_broke d (joins (join_rank (Some j))) (other_of d (join_rank (Some j))) join_by so here' q k
 
-    pub joins_broke : {b : Cursor} {r : ReadRefusal} → Passed d s b → Stops (λ g. conditions true (n - 1) g d) b r → Halts (λ g. joining_on d n g g) flat_cond from s0 o0 r
-    joins_broke q k = chain_broke d (joins n) (other_of d n) join_by so here' q k
-
-    pub joins_again : {b t : Cursor} {o1 o2 u : Code} {y : Thing} {middle skip : ℕ} {nd : Node} → 0 < n → Passed d s b → Inserted from (node.Begin s.here.at) o o1 → middle ≡ vec_len o1.nodes
-        → Gave 0 (λ g. conditions true (n - 1) g d) (flat_found true) (found_is true) b t o1 o2 y → skip ≡ vec_len o2.nodes - middle → nd ≡ join_node n skip → Inserted middle nd o2 u
-        → Chained (joining_on d n) flat_cond from s0 t o0 u
-    joins_again {b} {t} {o1} {o2} {u} {y} {middle} {skip} {nd} some q w mid k sk is_nd v =
+    pub joins_again : {b t : Cursor} {o1 o2 u : Code} {y : Thing} {middle skip : ℕ} {nd : Node} → Passed d s b → Inserted from (node.Begin s.here.at) o o1 → middle ≡ vec_len o1.nodes
+        → Gave 0 (λ g. conditions true (join_rank (Some j) - 1) g d) (flat_found true) (found_is true) b t o1 o2 y → skip ≡ vec_len o2.nodes - middle → nd ≡ join_node j skip → Inserted middle nd o2 u
+        → Chained (joining_on d (join_rank (Some j))) flat_cond from s0 t o0 u
+    joins_again {b} {t} {o1} {o2} {u} {y} {middle} {skip} {nd} q w mid k sk is_nd v =
         let r = k.went in
         let long : length (flat_cond r.tree) ≡ skip = omega (arith, o1.nodes.ok.0, o2.nodes.ok.0, simp length-append at (ap length r.code)) in
-        turn d (joins n) (other_of d n) join_by so r.tree here' q r.moved.fall r.is
-        (moved_by (and (pass q) (and (inserts w) (and (moves r.moved) (inserts v)))) so.moved.few (omega arith))
+        turn d (joins (join_rank (Some j))) (other_of d (join_rank (Some j))) join_by so r.tree here' q r.moved.fall r.is
+        (moved_by (and (pass q) (and (inserts w) (and (moves r.moved) (inserts v)))) (omega arith))
         (λ x front e l.
         v.items ∙ insert_at _ (vec_items o1.nodes) (flat_cond r.tree) middle nd r.code (sym (mid ∙ o1.nodes.ok.0))
         ∙ ap (λ ns. ns ++ (nd ∷ flat_cond r.tree)) (w.items ∙ insert_at _ front (flat_cond x) from _ e l)
         ∙ append_assoc front _ _
-        ∙ ap (λ nd. front ++ (node.Begin s.here.at ∷ (flat_cond x ++ (nd ∷ flat_cond r.tree)))) (is_nd ∙ ap (join_node n) (sym long))
-        ∙ ap (λ ns. front ++ ns) (sym (join_code (is (mark AndAnd) (kind_at (left s))) (is (mark OrOr) (kind_at (left s))) n s.here.at x r.tree (sym h ∙ is_n) some)))
+        ∙ ap (λ nd. front ++ (node.Begin s.here.at ∷ (flat_cond x ++ (nd ∷ flat_cond r.tree)))) (is_nd ∙ ap (join_node j) (sym long))
+        ∙ ap (λ ns. front ++ ns) (sym (join_code (is (mark AndAnd) (kind_at (left s))) (is (mark OrOr) (kind_at (left s))) j s.here.at x r.tree here')))

@@ -27,7 +27,7 @@ is_found true x = refl
 is_found false x = refl
 
 never : Expression ≡ Condition → ⊥
-never h = let z : ◌≡◌ {A = ℕ} 0 1 = cc in omega arith
+never h = cc
 
 pub as_expression : (m : Bool) (t : Got m) → Expression ≡ got_is m t → (x : Expr) × (t ≡ got m x)
 as_expression true (thing_expr x) h = (x, refl)

@@ -13,7 +13,6 @@ pub headed : (r : Result Declarator ReadRefusal) {f h : Parser Declarator} {c e 
 headed (Ok x) {f} {h} {c} i l le d = record {
   is = l.is (suc (length (left c))) (omega arith) ∙ d.is;
   on = omega (arith, d.on);
-  few = d.few;
   fall = omega (arith, d.fall, l.fall);
 }
 headed (Err r) i l le d = hands_on l d

@@ -1,6 +1,5 @@
 -- Levels of binary operators: what each way of reading one comes to. Assumes nothing.
 use Rattle.std.proofs.Common.{◌≡◌, ℕ, ◌-◌, ◌<◌, ◌≤◌, Bool, true, false, [], ◌∷◌, ◌++◌, length, vec_items, vec_len, Result, sym, ap, ◌∙◌, subst, append_assoc, arith}
-use Rattle.std.proofs.lemmas.Bool.{eq-eqb, ne_eqb}
 use Rattle.script.specs.declared.types.Operator.{Operator}
 use Rattle.script.specs.declared.types.Node.TheVariants as node
 use Rattle.script.specs.Tree as tree
@@ -9,7 +8,7 @@ use Rattle.script.specs.Flat.{flat}
 use Rattle.tokens.specs.Spelling.{Item}
 use Rattle.grammar.specs.Tokens.{first}
 use Rattle.grammar.specs.Combine.{Parser, kind_at}
-use Rattle.grammar.specs.Parse.{got, goes, level, operand, operates, binding, operator_of}
+use Rattle.grammar.specs.Parse.{got, goes, level, operand, operates, operator_of}
 use Rattle.reader.specs.declared.refusal.ReadRefusal.{ReadRefusal}
 use Rattle.reader.specs.declared.cursor.Cursor.{Cursor}
 use Rattle.reader.specs.declared.code.Code.{Code}
@@ -63,8 +62,8 @@ module _ (m : Bool) (n d : ℕ) {c b : Cursor} {o p : Code} {y : Thing} (some : 
       told = k.told;
     }
 
-    pub level_done : {e : Cursor} {q : Code} → c.taken ≤ 2048 → Followed (λ g. chained d n c.here.at g g) flat flat (λ _. Unit {0}) from b e p q → Gave 0 (λ g. levels m n g d) (flat_got m) (got_is m) c e o q Expression
-    level_done {e} {q} few k =
+    pub level_done : {e : Cursor} {q : Code} → Followed (λ g. chained d n c.here.at g g) flat flat (λ _. Unit {0}) from b e p q → Gave 0 (λ g. levels m n g d) (flat_got m) (got_is m) c e o q Expression
+    level_done {e} {q} k =
         let a = k.onto head.0 (vec_items o.nodes) head_code (sym (here ∙ o.nodes.ok.0)) in
         let w = first'.went in
         let path = and (moves w.moved) (moves k.moved) in
@@ -73,7 +72,7 @@ module _ (m : Bool) (n d : ℕ) {c b : Cursor} {o p : Code} {y : Thing} (some : 
             tree = got m a.tree;
             is = λ g l. head_is g l ∙ goes_done m _ head.0 (left b) (a.is (gas_of m g) (enough g l));
             code = a.code ∙ ap (λ l. vec_items o.nodes ++ l) (sym (flat_got_lem m a.tree));
-            moved = moved_by path few (omega arith);
+            moved = moved_by path (omega arith);
             some = omega (arith, w.some, k.moved.on);
           };
           thing = is_got m a.tree;
@@ -87,13 +86,10 @@ abbrev pub right_of : ℕ → ℕ → ℕ → Parser Expr
 right_of d n g = level false d g (operand g d) (operand g d) (n - 1)
 
 module _ (d n start : ℕ) {from : ℕ} {s0 s : Cursor} {o0 o : Code} (so : Chained (chained d n start) flat from s0 s o0 o) where
-  pub operators_done : {v : ℕ} → v ≡ binding (kind_at (left s)) → (v ≡ n → ⊥) → Followed (λ g. chained d n start g g) flat flat (λ _. Unit {0}) from s0 s o0 o
-  operators_done h f = chain_done d (operates n) (right_of d n) (binary_of start) so (ne_eqb (binding (kind_at (left s))) n (λ e. f (h ∙ e)))
+  pub operators_done : operates n (kind_at (left s)) ≡ false → Followed (λ g. chained d n start g g) flat flat (λ _. Unit {0}) from s0 s o0 o
+  operators_done h = chain_done d (operates n) (right_of d n) (binary_of start) so h
 
-  module _ {v : ℕ} (h : v ≡ binding (kind_at (left s))) (is_n : v ≡ n) where
-    here : operates n (kind_at (left s)) ≡ true
-    here = eq-eqb (binding (kind_at (left s))) n (sym h ∙ is_n)
-
+  module _ (here : operates n (kind_at (left s)) ≡ true) where
     pub operators_stuck : {r : ReadRefusal} → NotPassed d s r → Halts (λ g. chained d n start g g) flat from s0 o0 r
     operators_stuck k = chain_stuck d (operates n) (right_of d n) (binary_of start) so here k
 
@@ -107,7 +103,7 @@ module _ (d n start : ℕ) {from : ℕ} {s0 s : Cursor} {o0 o : Code} (so : Chai
         let r = k.went in
         let v' : Wrote (node.Binary s.here.at start (operator_of (first (left s)))) o2 u = subst (λ op. Wrote (node.Binary s.here.at start op) o2 u) is_op v in
         turn d (operates n) (right_of d n) (binary_of start) so r.tree here q r.moved.fall r.is
-        (moved_by (and (pass q) (and (inserts w) (and (moves r.moved) (wrote v)))) so.moved.few (omega arith))
+        (moved_by (and (pass q) (and (inserts w) (and (moves r.moved) (wrote v)))) (omega arith))
         (λ x front e l.
         v'.items ∙ ap (λ ns. ns ++ (node.Binary s.here.at start (operator_of (first (left s))) ∷ [])) (r.code ∙ ap (λ ns. ns ++ flat r.tree) (w.items ∙ insert_at _ front (flat x) from _ e l))
         ∙ simp append_assoc)

@@ -1,7 +1,9 @@
+pub mod Exits
 pub mod Steps
 pub mod Paths
 pub mod Chains
 pub mod Forms
+pub mod Ranks
 pub mod Lists
 pub mod Deep
 pub mod Operands

@@ -56,9 +56,9 @@ wrapped_id : (o : Out Exprs) → o ≡ wrapped (λ xs. xs) o
 wrapped_id (out_done y ts) = refl
 wrapped_id (out_fail ts w) = refl
 
-pub start_list : (d : ℕ) (p : ℕ → Parser Expr) (k : ℕ) {s : Cursor} {o : Code} → s.taken ≤ 2048 → Listed d p k k s s o o
-start_list d p k {s} {o} f = record {
-  moved = stay f;
+pub start_list : (d : ℕ) (p : ℕ → Parser Expr) (k : ℕ) {s : Cursor} {o : Code} → Listed d p k k s s o o
+start_list d p k {s} {o} = record {
+  moved = stay;
   few = omega arith;
   onto = λ x front h. record {
     last = x;
@@ -95,7 +95,7 @@ module _ (d : ℕ) (p : Parser Expr) where
 
 pub list_turn : (d : ℕ) (p : ℕ → Parser Expr) {k n : ℕ} {s0 s b t : Cursor} {o0 o u : Code} → Listed d p k n s0 s o0 o → is (mark Comma) (kind_at (left s)) ≡ true → Passed d s b → Went 0 (λ g. p (suc g)) flat b t o u → Listed d p k (n + 1) s0 t o0 u
 list_turn d p {k} {n} {s0} {s} {b} {t} {o0} {o} {u} so f q r = record {
-  moved = moved_by (and (moves so.moved) (and (pass q) (moves r.moved))) (omega (arith, so.moved.on, so.moved.few)) (omega arith);
+  moved = moved_by (and (moves so.moved) (and (pass q) (moves r.moved))) (omega arith);
   few = omega (arith, so.few, q.taken, r.moved.on);
   onto = λ x front h.
       let a = so.onto x front h in
@@ -118,7 +118,7 @@ list_turn d p {k} {n} {s0} {s} {b} {t} {o0} {o} {u} so f q r = record {
 }
 
 -- the whole, from c before the first actual, s after it, and t where the loop ended
-module _ (d : ℕ) {n : ℕ} {c s t : Cursor} {o0 o q : Code} (few : c.taken ≤ 2048) (open' : is (mark RightParen) (kind_at (left c)) ≡ false)
+module _ (d : ℕ) {n : ℕ} {c s t : Cursor} {o0 o q : Code} (open' : is (mark RightParen) (kind_at (left c)) ≡ false)
     (first : Went 0 (λ g. expression (suc g) (suc d)) flat c s o0 o) (so : Listed (suc d) (λ g. expression g (suc d)) 1 n s t o q) where
   far : SofarAll (suc d) (λ g. expression g (suc d)) 1 n first.tree (vec_items o0.nodes) s t q
   far = so.onto first.tree (vec_items o0.nodes) first.code
@@ -142,7 +142,7 @@ module _ (d : ℕ) {n : ℕ} {c s t : Cursor} {o0 o q : Code} (few : c.taken ≤
           tree = far.wrap (more far.last none);
           is = at_suc (λ g. actuals d g (expression g (suc d)) (left c)) _ _ (λ g l. stops f g l ∙ wanted RightParen d t _ w);
           code = far.code ∙ ap (λ l. vec_items o0.nodes ++ l) (sym (far.flats_wrap (more far.last none) ∙ ap (λ l. far.before ++ l) (append-nil (flat far.last))));
-          moved = moved_by path few (omega arith);
+          moved = moved_by path (omega arith);
           some = omega (arith, some_by 0 path (omega arith));
         };
         number = omega (arith, far.number, far.count_wrap (more far.last none));
@@ -188,10 +188,10 @@ list_fails d {c} open' k = record {
 pub list_none_stuck : (d : ℕ) {c : Cursor} {r : ReadRefusal} → is (mark RightParen) (kind_at (left c)) ≡ true → NotPassed d c r → Refused (λ g. actuals d g (expression g (suc d))) c r
 list_none_stuck d {c} h n = record { rest = left c; why = why_of n; is = λ g l. on_stuck d c _ _ _ h n; told = told_of n }
 
-pub list_none : (d : ℕ) {c b : Cursor} {o : Code} → c.taken ≤ 2048 → is (mark RightParen) (kind_at (left c)) ≡ true → Passed d c b → ReadActuals (λ g. actuals d g (expression g (suc d))) c b o o 0
-list_none d {c} {b} {o} few h s =
+pub list_none : (d : ℕ) {c b : Cursor} {o : Code} → is (mark RightParen) (kind_at (left c)) ≡ true → Passed d c b → ReadActuals (λ g. actuals d g (expression g (suc d))) c b o o 0
+list_none d {c} {b} {o} h s =
     let path = pass {o = o} s in
     record {
-      read = record { tree = none; is = λ g l. on_passed d c _ _ _ h s; code = sym (append-nil _); moved = moved_by path few (omega arith); some = omega (arith, s.taken) };
+      read = record { tree = none; is = λ g l. on_passed d c _ _ _ h s; code = sym (append-nil _); moved = moved_by path (omega arith); some = omega (arith, s.taken) };
       number = refl;
     }

@@ -13,7 +13,6 @@ use Rattle.reader.proofs.Steps.{shorter}
 -- a is two for each token that was surely passed, and b bounds the nodes written beside
 pub record Path (a b : ℕ) (c e : Cursor) (o p : Code) : Type 0 where
   pub on : 2 * c.taken + a ≤ 2 * e.taken
-  pub few : c.taken ≤ 2048 → e.taken ≤ 2048
   pub fall : 2 * length (left e) + a ≤ 2 * length (left c)
   pub spent : vec_len p.nodes + 2 * (2048 - e.taken) + a ≤ vec_len o.nodes + 2 * (2048 - c.taken) + b
   pub grown : vec_len o.nodes ≤ vec_len p.nodes
@@ -24,21 +23,20 @@ pub record Path (a b : ℕ) (c e : Cursor) (o p : Code) : Type 0 where
 pub pass : {d : ℕ} {c e : Cursor} {o : Code} → Passed d c e → Path 2 0 c e o o
 pass s =
     let l = shorter s in
-    record { on = omega arith; few = λ h. omega arith; fall = omega arith; spent = omega arith; grown = omega arith; cap = omega arith; functions = refl; formals = refl }
+    record { on = omega arith; fall = omega arith; spent = omega arith; grown = omega arith; cap = omega arith; functions = refl; formals = refl }
 
 pub wrote : {n : Node} {c : Cursor} {o p : Code} → Wrote n o p → Path 0 1 c c o p
-wrote w = record { on = omega arith; few = λ h. h; fall = omega arith; spent = omega arith; grown = omega arith; cap = w.cap; functions = w.functions; formals = w.formals }
+wrote w = record { on = omega arith; fall = omega arith; spent = omega arith; grown = omega arith; cap = w.cap; functions = w.functions; formals = w.formals }
 
 pub inserts : {i : ℕ} {n : Node} {c : Cursor} {o p : Code} → Inserted i n o p → Path 0 1 c c o p
-inserts w = record { on = omega arith; few = λ h. h; fall = omega arith; spent = omega arith; grown = omega arith; cap = w.cap; functions = w.functions; formals = w.formals }
+inserts w = record { on = omega arith; fall = omega arith; spent = omega arith; grown = omega arith; cap = w.cap; functions = w.functions; formals = w.formals }
 
 pub moves : {k : ℕ} {c e : Cursor} {o p : Code} → Moved k c e o p → Path 0 k c e o p
-moves m = record { on = omega (arith, m.on); few = λ h. m.few; fall = omega (arith, m.fall); spent = omega (arith, m.spent); grown = m.grown; cap = m.cap; functions = m.functions; formals = m.formals }
+moves m = record { on = omega (arith, m.on); fall = omega (arith, m.fall); spent = omega (arith, m.spent); grown = m.grown; cap = m.cap; functions = m.functions; formals = m.formals }
 
 pub and : {a b a' b' : ℕ} {c d e : Cursor} {o p q : Code} → Path a b c d o p → Path a' b' d e p q → Path (a + a') (b + b') c e o q
 and x y = record {
   on = omega (arith, x.on, y.on);
-  few = λ h. y.few (x.few h);
   fall = omega (arith, x.fall, y.fall);
   spent = omega (arith, x.spent, y.spent);
   grown = omega (arith, x.grown, y.grown);
@@ -47,10 +45,9 @@ and x y = record {
   formals = y.formals ∙ x.formals;
 }
 
-pub moved_by : {a b k : ℕ} {c e : Cursor} {o p : Code} → Path a b c e o p → c.taken ≤ 2048 → b ≤ a + k → Moved k c e o p
-moved_by x f l = record {
+pub moved_by : {a b k : ℕ} {c e : Cursor} {o p : Code} → Path a b c e o p → b ≤ a + k → Moved k c e o p
+moved_by x l = record {
   on = omega (arith, x.on);
-  few = x.few f;
   fall = omega (arith, x.fall);
   spent = omega (arith, x.spent);
   grown = x.grown;

@@ -1,8 +1,7 @@
 -- Functions, one after another. Assumes nothing.
-use Rattle.std.proofs.Common.{◌≡◌, ℕ, suc, ◌+◌, ◌-◌, ◌<◌, ◌≤◌, true, false, eqb, List, [], ◌∷◌, ◌++◌, length, vec_items, vec_len, vec_capacity, sym, refl, ap, ◌∙◌, append_assoc, append-nil, add-zero, arith, length-append}
+use Rattle.std.proofs.Common.{◌≡◌, ℕ, suc, ◌+◌, ◌-◌, ◌<◌, true, false, eqb, List, [], ◌∷◌, ◌++◌, length, vec_items, vec_len, vec_capacity, sym, refl, ap, ◌∙◌, append_assoc, append-nil, add-zero, arith, length-append}
 use Rattle.script.specs.declared.types.Function.{Function}
 use Rattle.script.specs.declared.types.Declarator.{Declarator}
-use Rattle.script.specs.declared.types.Node.{Node}
 use Rattle.script.specs.declared.types.Node.TheVariants as node
 use Rattle.script.specs.Tree.{Program}
 use Rattle.script.specs.Flat.{flat_formals, flat_stmts, flat_fun, flat_program, formals_of, functions_of}
@@ -13,9 +12,11 @@ use Rattle.reader.specs.declared.cursor.Cursor.{Cursor}
 use Rattle.reader.specs.declared.code.Code.{Code}
 use Rattle.reader.specs.Cursor.{left}
 use Rattle.reader.specs.Reading.{Passed, Refusal, Refused}
+use Rattle.reader.specs.Terms.{Wrote}
 use Rattle.reader.specs.Statements.{Leads, Declared, Went}
 use Rattle.reader.specs.Functions.{Kept, AllFormals, Written, OneFunction, WholeProgram}
-use Rattle.reader.proofs.Says.{at_start, goes_on, breaks, fails, passed_one}
+use Rattle.reader.proofs.Steps.{shorter}
+use Rattle.reader.proofs.Says.{at_start, goes_on, breaks, fails}
 use Rattle.reader.proofs.Turns.{Turned, no_turn, turn, turned_all, turn_fails}
 use Rattle.reader.proofs.Commas.{same_room, kept_both, together_self}
 
@@ -40,8 +41,8 @@ functions_append i n (x ∷ xs) ys =
     at_nodes : n + length (flat_fun x) + length (flat_program xs) ≡ n + length (flat_fun x ++ flat_program xs)
     at_nodes = let l = length-append (flat_fun x) (flat_program xs) in omega arith
 
-pub written_none : (c : Cursor) (o : Code) → c.taken ≤ 2048 → Written c c o o []
-written_none c o few = record { kept = same_room c o few; nodes = sym (append-nil _); formals = sym (append-nil _); functions = sym (append-nil _) }
+pub written_none : (c : Cursor) (o : Code) → Written c c o o []
+written_none c o = record { kept = same_room c o; nodes = sym (append-nil _); formals = sym (append-nil _); functions = sym (append-nil _) }
 
 pub written_both : {c e i : Cursor} {o p q : Code} {xs ys : Program} → Written c e o p xs → Written e i p q ys → Written c i o q (xs ++ ys)
 written_both {c} {e} {i} {o} {p} {q} {xs} {ys} a b =
@@ -73,9 +74,9 @@ pub record Programmed (c e : Cursor) (o p : Code) : Type 0 where
   pub turned : Turned declares function [] (λ f fs. f ∷ fs) c e
   pub written : Written c e o p turned.list
 
-pub programmed_none : (c : Cursor) (o : Code) → c.taken ≤ 2048 → Programmed c c o o
+pub programmed_none : (c : Cursor) (o : Code) → Programmed c c o o
 unfolding no_turn
-programmed_none c o few = record { turned = no_turn c; written = written_none c o few }
+programmed_none c o = record { turned = no_turn c; written = written_none c o }
 
 module _ {c e : Cursor} {o p : Code} (l : Programmed c e o p) where
   pub programmed_more : {i : Cursor} {q : Code} → declares (kind_at (left e)) ≡ true → OneFunction e i p q → Programmed c i o q
@@ -105,22 +106,12 @@ flat_long : (ds : List Declarator) → length (flat_formals ds) ≡ length ds
 flat_long [] = refl
 flat_long (d ∷ ds) = ap suc (flat_long ds)
 
--- p is o with a node more
-pub record Pushed (n : Node) (o p : Code) : Type 0 where
-  pub items : vec_items p.nodes ≡ vec_items o.nodes ++ (n ∷ [])
-  pub len : vec_len p.nodes ≡ vec_len o.nodes + 1
-  pub cap : vec_capacity p.nodes ≡ vec_capacity o.nodes
-  pub functions : p.functions ≡ o.functions
-  pub formals : p.formals ≡ o.formals
-
--- p is o with a node and a function more
-pub record Closed (n : Node) (f : Function) (o p : Code) : Type 0 where
-  pub items : vec_items p.nodes ≡ vec_items o.nodes ++ (n ∷ [])
-  pub len : vec_len p.nodes ≡ vec_len o.nodes + 1
-  pub cap : vec_capacity p.nodes ≡ vec_capacity o.nodes
-  pub entries : vec_items p.functions ≡ vec_items o.functions ++ (f ∷ [])
-  pub entries_len : vec_len p.functions ≡ vec_len o.functions + 1
-  pub entries_cap : vec_capacity p.functions ≡ vec_capacity o.functions
+-- p is o with a function more
+pub record Entered (f : Function) (o p : Code) : Type 0 where
+  pub items : vec_items p.functions ≡ vec_items o.functions ++ (f ∷ [])
+  pub len : vec_len p.functions ≡ vec_len o.functions + 1
+  pub cap : vec_capacity p.functions ≡ vec_capacity o.functions
+  pub nodes : p.nodes ≡ o.nodes
   pub formals : p.formals ≡ o.formals
 
 -- the parts of a function
@@ -132,14 +123,14 @@ module _ (h : Declarator) {c0 c1 c2 c3 c4 c5 c6 : Cursor} {o1 o2 o3 : Code} (hea
   function_shorter =
       let k = fs.listing.kept.fall in
       let m = s.moved.fall in
-      let l1 = passed_one w1 in
-      let l2 = passed_one w2 in
-      let l3 = passed_one w3 in
+      let l1 = shorter w1 in
+      let l2 = shorter w2 in
+      let l3 = shorter w3 in
       omega arith
 
-  module _ {o0 p : Code} (enter : Pushed (node.Enter h) o0 o1) {f : Function} (e : Closed (node.Leave c5.here.at) f o3 p) where
-    same_functions : o3.functions ≡ o0.functions
-    same_functions = s.moved.functions ∙ fs.listing.functions ∙ enter.functions
+  module _ {o0 o4 p : Code} (enter : Wrote (node.Enter h) o0 o1) (leave : Wrote (node.Leave c5.here.at) o3 o4) {f : Function} (e : Entered f o4 p) where
+    same_functions : o4.functions ≡ o0.functions
+    same_functions = leave.functions ∙ s.moved.functions ∙ fs.listing.functions ∙ enter.functions
 
     function_kept : Kept c0 c6 o0 p
     function_kept =
@@ -151,16 +142,18 @@ module _ (h : Declarator) {c0 c1 c2 c3 c4 c5 c6 : Cursor} {o1 o2 o3 : Code} (hea
         let b2 = ap vec_capacity m.formals in
         let b3 = ap vec_len enter.formals in
         let b4 = ap vec_capacity enter.formals in
-        let d1 = ap vec_len e.formals in
-        let d2 = ap vec_capacity e.formals in
-        let l1 = passed_one w1 in
-        let l2 = passed_one w2 in
-        let l3 = passed_one w3 in
+        let d1 = ap vec_len (e.formals ∙ leave.formals) in
+        let d2 = ap vec_capacity (e.formals ∙ leave.formals) in
+        let n1 = ap vec_len e.nodes in
+        let n2 = ap vec_capacity e.nodes in
+        let l1 = shorter w1 in
+        let l2 = shorter w2 in
+        let l3 = shorter w3 in
         let some = fs.some in
-        record { on = omega arith; few = omega arith; fall = omega arith; nodes = omega arith; formals = omega arith; functions = omega arith; grown_formals = omega arith; cap_nodes = omega arith; cap_formals = omega arith; cap_functions = omega arith }
+        record { on = omega arith; fall = omega arith; nodes = omega arith; formals = omega arith; functions = omega arith; grown_formals = omega arith; cap_nodes = omega arith; cap_formals = omega arith; cap_functions = omega arith }
 
-  pub function_written : {o0 p : Code} (first count entry : ℕ) → Pushed (node.Enter h) o0 o1 → first ≡ vec_len o0.formals → count ≡ vec_len o2.formals - first → entry ≡ vec_len o2.nodes → Closed (node.Leave c5.here.at) (record { head = h; first = first; formals = count; entry = entry; close = c5.here.at }) o3 p → Written c0 c6 o0 p (record { head = h; formals = fs.list; body = s.tree; close = c5.here.at } ∷ [])
-  function_written {o0} {p} first count entry enter x y z e =
+  pub function_written : {o0 o4 p : Code} (first count entry : ℕ) → Wrote (node.Enter h) o0 o1 → first ≡ vec_len o0.formals → count ≡ vec_len o2.formals - first → entry ≡ vec_len o2.nodes → Wrote (node.Leave c5.here.at) o3 o4 → Entered (record { head = h; first = first; formals = count; entry = entry; close = c5.here.at }) o4 p → Written c0 c6 o0 p (record { head = h; formals = fs.list; body = s.tree; close = c5.here.at } ∷ [])
+  function_written {o0} first count entry enter x y z leave e =
       let l1 = ap length fs.listing.formals in
       let l2 = length-append (vec_items o1.formals) fs.list in
       let l3 = o1.formals.ok.0 in
@@ -175,15 +168,15 @@ module _ (h : Declarator) {c0 c1 c2 c3 c4 c5 c6 : Cursor} {o1 o2 o3 : Code} (hea
       let n6 = enter.len in
       let starts : entry ≡ vec_len o0.nodes + 1 + length fs.list = omega arith in
       record {
-        kept = function_kept enter e;
+        kept = function_kept enter leave e;
         nodes =
-            e.items
+            ap vec_items e.nodes ∙ leave.items
             ∙ ap (λ l. l ++ (node.Leave c5.here.at ∷ [])) (s.code ∙ ap (λ l. l ++ flat_stmts s.tree) (fs.listing.nodes ∙ ap (λ l. l ++ flat_formals fs.list) enter.items))
             ∙ simp (append_assoc, append-nil);
         formals =
-            ap vec_items (e.formals ∙ s.moved.formals) ∙ fs.listing.formals ∙ ap (λ v. vec_items v ++ fs.list) enter.formals
+            ap vec_items (e.formals ∙ leave.formals ∙ s.moved.formals) ∙ fs.listing.formals ∙ ap (λ v. vec_items v ++ fs.list) enter.formals
             ∙ ap (λ l. vec_items o0.formals ++ l) (sym (append-nil fs.list));
         functions =
-            e.entries
-            ∙ (λ k. vec_items (same_functions enter e k) ++ (record { head = h; first = x k; formals = counted k; entry = starts k; close = c5.here.at } ∷ []));
+            e.items
+            ∙ (λ k. vec_items (same_functions enter leave e k) ++ (record { head = h; first = x k; formals = counted k; entry = starts k; close = c5.here.at } ∷ []));
       }

@@ -1,37 +1,16 @@
 -- What readers of tokens come to at a cursor, step by step. Assumes nothing.
-use Rattle.std.proofs.Common.{◌≡◌, ℕ, ◌+◌, ◌-◌, ◌<◌, ◌≤◌, Bool, true, false, List, length, sym, refl, ap, ◌∙◌, add-one, arith}
+use Rattle.std.proofs.Common.{◌≡◌, ℕ, ◌+◌, ◌-◌, ◌<◌, ◌≤◌, Bool, true, false, List, length, sym, refl, ap, ◌∙◌, arith}
 use native.Mathlib.Nat.{sub-zero}
-use Rattle.std.proofs.lemmas.Bool.{lt-ltb, le-ltb}
 use Rattle.tokens.specs.declared.types.Mark.{Mark}
 use Rattle.tokens.specs.Spelling.{Item, item_of, mark}
 use Rattle.grammar.specs.Tokens.{Tok}
-use Rattle.grammar.specs.Combine.{Why, why_bad, why_deep, why_many, out_done, out_fail, Parser, next, after, from, bad, on, want, kind_at, is}
+use Rattle.grammar.specs.Combine.{Why, why_bad, out_done, out_fail, Parser, next, after, from, bad, on, want, kind_at, is}
 use Rattle.reader.specs.declared.refusal.ReadRefusal.{ReadRefusal}
 use Rattle.reader.specs.declared.cursor.Cursor.{Cursor}
 use Rattle.reader.specs.Cursor.{left}
 use Rattle.reader.specs.Statements.{Leads}
-use Rattle.reader.specs.Reading.{Refusal, Passed, NotPassed, too_deep, too_many, NotExpected, stays, other, Refused}
-
-pub passed_one : {d : ℕ} {c e : Cursor} → Passed d c e → length (left e) + 1 ≡ length (left c)
-passed_one {d} {c} {e} p = ap (λ n. n + 1) (ap length p.rest) ∙ add-one _
-
-module _ {X : Type 0} (d : ℕ) (test : ℕ → Bool) (p : Item → Parser X) (q : Parser X) (c : Cursor) where
-  pub on_true : (e : Cursor) → test (kind_at (left c)) ≡ true → Passed d c e → on d test p q (left c) ≡ p (item_of c.here) (left e)
-  unfolding on
-  on_true e h w =
-      rw (h, le-ltb 64 d w.deep, lt-ltb c.taken 2048 w.counted) (ap (p (item_of c.here)) (sym w.rest))
-
-  pub on_false : test (kind_at (left c)) ≡ false → on d test p q (left c) ≡ q (left c)
-  unfolding on
-  on_false h = rw h refl
-
-  pub on_deep : test (kind_at (left c)) ≡ true → 64 < d → on d test p q (left c) ≡ out_fail (left c) why_deep
-  unfolding on
-  on_deep h w = rw (h, lt-ltb 64 d w) refl
-
-  pub on_many : test (kind_at (left c)) ≡ true → d ≤ 64 → 2048 ≤ c.taken → on d test p q (left c) ≡ out_fail (left c) why_many
-  unfolding on
-  on_many h w n = rw (h, le-ltb 64 d w, le-ltb c.taken 2048 n) refl
+use Rattle.reader.proofs.Steps.{on_passed, on_stuck, on_other, shorter, told_of}
+use Rattle.reader.specs.Reading.{Refusal, Passed, NotPassed, NotExpected, stays, other, Refused}
 
 module _ {X : Type 0} {k : ℕ} {f : ℕ → Parser X} {c e : Cursor} where
   pub fails : (h : ℕ → Parser X) (ts : List Tok) (why : Why) {r : ReadRefusal} → Leads k f c h e → ((g : ℕ) → length (left e) < g → h g (left e) ≡ out_fail ts why) → Refusal ts why r → Refused f c r
@@ -40,16 +19,15 @@ module _ {X : Type 0} {k : ℕ} {f : ℕ → Parser X} {c e : Cursor} where
   module _ (d : ℕ) (test : ℕ → Bool) (p : ℕ → Item → Parser X) (q : ℕ → Parser X) (l : Leads k f c (λ g. on d test (p g) (q g)) e) where
     pub takes : {i : Cursor} → test (kind_at (left e)) ≡ true → Passed d e i → Leads k f c (λ g. p g (item_of e.here)) i
     takes {i} h w = record {
-      is = λ g lt. l.is g lt ∙ on_true d test (p (g - k)) (q (g - k)) e i h w;
-      fall = omega (arith, l.fall, passed_one w);
+      is = λ g lt. l.is g lt ∙ on_passed d e test (p (g - k)) (q (g - k)) h w;
+      fall = omega (arith, l.fall, shorter w);
     }
 
     pub leaves : test (kind_at (left e)) ≡ false → Leads k f c q e
-    leaves h = record { is = λ g lt. l.is g lt ∙ on_false d test (p (g - k)) (q (g - k)) e h; fall = l.fall }
+    leaves h = record { is = λ g lt. l.is g lt ∙ on_other d e test (p (g - k)) (q (g - k)) h; fall = l.fall }
 
     pub stops : {r : ReadRefusal} → test (kind_at (left e)) ≡ true → NotPassed d e r → Refused f c r
-    stops h (too_deep w t) = fails _ _ _ l (λ g lt. on_deep d test (p g) (q g) e h w) t
-    stops h (too_many w n t) = fails _ _ _ l (λ g lt. on_many d test (p g) (q g) e h w n) t
+    stops h n = fails _ _ _ l (λ g lt. on_stuck d e test (p g) (q g) h n) (told_of n)
 
   -- the token at hand cannot stand here
   pub refuses : {r : ReadRefusal} → Leads k f c (λ g. bad) e → Refusal (left e) why_bad r → Refused f c r
@@ -114,13 +92,12 @@ pub record Opens {X : Type 0} (f : ℕ → Parser X) (c : Cursor) (h : ℕ → P
 module _ {X : Type 0} {f : ℕ → Parser X} {c : Cursor} (d : ℕ) (test : ℕ → Bool) (p : ℕ → Item → Parser X) (q : ℕ → Parser X) (l : Opens f c (λ g. on d test (p g) (q g))) where
   pub first_takes : {i : Cursor} → test (kind_at (left c)) ≡ true → Passed d c i → Leads 1 f c (λ g. p g (item_of c.here)) i
   first_takes {i} h w = record {
-    is = λ g lt. l.is g lt ∙ on_true d test (p (g - 1)) (q (g - 1)) c i h w;
-    fall = omega (arith, passed_one w);
+    is = λ g lt. l.is g lt ∙ on_passed d c test (p (g - 1)) (q (g - 1)) h w;
+    fall = omega (arith, shorter w);
   }
 
   pub first_leaves : test (kind_at (left c)) ≡ false → Opens f c q
-  first_leaves h = record { is = λ g lt. l.is g lt ∙ on_false d test (p (g - 1)) (q (g - 1)) c h }
+  first_leaves h = record { is = λ g lt. l.is g lt ∙ on_other d c test (p (g - 1)) (q (g - 1)) h }
 
   pub first_stops : {r : ReadRefusal} → test (kind_at (left c)) ≡ true → NotPassed d c r → Refused f c r
-  first_stops h (too_deep w t) = record { rest = _; why = _; is = λ g lt. l.is g lt ∙ on_deep d test (p (g - 1)) (q (g - 1)) c h w; told = t }
-  first_stops h (too_many w n t) = record { rest = _; why = _; is = λ g lt. l.is g lt ∙ on_many d test (p (g - 1)) (q (g - 1)) c h w n; told = t }
+  first_stops h n = record { rest = _; why = _; is = λ g lt. l.is g lt ∙ on_stuck d c test (p (g - 1)) (q (g - 1)) h n; told = told_of n }

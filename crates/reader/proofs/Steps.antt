@@ -2,13 +2,18 @@
 use Rattle.std.proofs.Common.{◌≡◌, ℕ, zero, suc, ◌<◌, ◌≤◌, Bool, true, false, List, length, sym, refl, ap, arith}
 use Rattle.std.proofs.lemmas.Bool.{lt-ltb, le-ltb}
 use Rattle.tokens.specs.declared.types.Mark.{Mark}
-use Rattle.tokens.specs.Spelling.{Item, item_of, mark}
+use Rattle.tokens.specs.declared.types.Token.{Token}
+use Rattle.tokens.specs.Spelling.{Item, item_of, symbol_of, mark}
 use Rattle.grammar.specs.Tokens.{Tok, offset}
-use Rattle.grammar.specs.Combine.{Why, why_bad, why_deep, why_many, out_done, out_fail, Parser, kind_at, is, on, want, after, from, next}
+use Rattle.grammar.specs.Combine.{Why, why_bad, why_deep, why_many, out_done, out_fail, Parser, kind, kind_at, is, on, want, after, from, next}
 use Rattle.reader.specs.declared.refusal.ReadRefusal.{ReadRefusal}
 use Rattle.reader.specs.declared.cursor.Cursor.{Cursor}
 use Rattle.reader.specs.Cursor.{left}
 use Rattle.reader.specs.Reading.{Refusal, Passed, NotPassed, too_deep, too_many, NotExpected, stays, other}
+
+-- the kind of a token of the code
+abbrev pub kind_of : Token → ℕ
+kind_of t = kind (symbol_of t)
 
 -- why a token was not passed
 abbrev pub why_of : {d : ℕ} {c : Cursor} {r : ReadRefusal} → NotPassed d c r → Why

@@ -11,6 +11,8 @@ use Rattle.reader.specs.declared.cursor.Cursor.{Cursor}
 use Rattle.reader.specs.declared.code.Code.{Code}
 use Rattle.reader.specs.Cursor.{left}
 use Rattle.reader.specs.Reading.{Moved, Refused}
+use Rattle.reader.proofs.Paths.{moves, and, moved_by}
+use Rattle.reader.proofs.Chains.{stay}
 use Rattle.reader.specs.Statements.{Went, Stated}
 
 -- what was read turn by turn, put before what is read after it
@@ -102,12 +104,12 @@ flat_more : (xs : List Stmt) (x : Stmt) → flat_stmts (together next (xs ++ (x 
 flat_more [] x = append-nil (flat_stmt x)
 flat_more (z ∷ zs) x = ap (λ l. flat_stmt z ++ l) (flat_more zs x) ∙ sym (append_assoc (flat_stmt z) _ _)
 
-pub listed_none : (d : ℕ) (c : Cursor) (o : Code) → c.taken ≤ 2048 → Listed d c c o o
+pub listed_none : (d : ℕ) (c : Cursor) (o : Code) → Listed d c c o o
 unfolding no_turn
-listed_none d c o few = record {
+listed_none d c o = record {
   turned = no_turn c;
   code = sym (append-nil _);
-  moved = record { on = omega arith; few = few; fall = omega arith; spent = omega arith; grown = omega arith; cap = omega arith; functions = refl; formals = refl };
+  moved = stay;
 }
 
 module _ {d : ℕ} {c e : Cursor} {o p : Code} (l : Listed d c e o p) where
@@ -115,12 +117,10 @@ module _ {d : ℕ} {c e : Cursor} {o p : Code} (l : Listed d c e o p) where
   unfolding turn
   listed_more {i} {q} h a =
       let r = a.read in
-      let m = l.moved in
-      let n = r.moved in
       record {
         turned = turn l.turned r.tree h r.is a.shorter;
         code = r.code ∙ ap (λ ns. ns ++ flat_stmt r.tree) l.code ∙ append_assoc (vec_items o.nodes) _ _ ∙ ap (λ ns. vec_items o.nodes ++ ns) (sym (flat_more l.turned.list r.tree));
-        moved = record { on = omega arith; few = n.few; fall = omega arith; spent = omega arith; grown = omega arith; cap = omega arith; functions = n.functions ∙ m.functions; formals = n.formals ∙ m.formals };
+        moved = moved_by (and (moves l.moved) (moves r.moved)) (omega arith);
       }
 
   pub listed_all : begins (kind_at (left e)) ≡ false → Went 0 (λ g. statements g d) flat_stmts c e o p

@@ -1,6 +1,5 @@
 -- A whole source. Assumes nothing.
-use Rattle.std.proofs.Common.{◌≡◌, ℕ, suc, ◌<◌, Bool, true, List, [], ◌∷◌, length, vec_len, sym, refl, ap, ◌∙◌, arith}
-use Rattle.std.proofs.lemmas.Bool.{ltb-true}
+use Rattle.std.proofs.Common.{◌≡◌, ℕ, suc, ◌<◌, List, [], ◌∷◌, length, sym, refl, ap, ◌∙◌, arith}
 use Rattle.script.specs.declared.types.Declarator.{Declarator}
 use Rattle.script.specs.declared.types.Function.{Function}
 use Rattle.script.specs.declared.types.Node.{Node}
@@ -8,7 +7,7 @@ use Rattle.script.specs.Tree.{Program}
 use Rattle.script.specs.Flat.{flat_program, formals_of, functions_of}
 use Rattle.tokens.specs.Spelling.{Item}
 use Rattle.tokens.specs.Scan.{lexed, lexed_by, front}
-use Rattle.grammar.specs.Tokens.{Tok, tokens_from}
+use Rattle.grammar.specs.Tokens.{tokens_from}
 use Rattle.grammar.specs.Combine.{after, many, peek, ends}
 use Rattle.grammar.specs.Parse.{program, outcome, verdict}
 use Rattle.grammar.specs.Refusals.{tokens, reads, refuses}
@@ -20,7 +19,7 @@ use Rattle.reader.specs.declared.cursor.Cursor.{Cursor}
 use Rattle.reader.specs.declared.code.Code.{Code}
 use Rattle.reader.specs.Cursor.{left}
 use Rattle.reader.specs.Reading.{Refused, reason_number}
-use Rattle.reader.specs.Functions.{Roomy, WholeProgram}
+use Rattle.reader.specs.Functions.{WholeProgram}
 use Rattle.reader.specs.Whole.{is_reads, is_read, program_of, code_of, functions_in, formals_in, IsScript}
 use Rattle.reader.specs.Script.{Derived, First}
 
@@ -33,29 +32,8 @@ tokens_long : (n : ℕ) (is : List Item) → length (tokens_from n is) ≡ lengt
 tokens_long n [] = refl
 tokens_long n (i ∷ is) = ap suc (tokens_long (suc n) is)
 
-first_counted : List Tok → Bool
-first_counted [] = true
-first_counted (t ∷ ts) = t.counted
-
-counted_first : (is : List Item) → first_counted (tokens is) ≡ true
-unfolding first_counted
-counted_first [] = refl
-counted_first (i ∷ is) = refl
-
 -- a cursor at the start of a source, and code with nothing written yet
 module _ (bs : List ℕ) (c : Cursor) (at_start : left c ≡ tokens (lexed 0 bs)) where
-  few : c.taken < 2048
-  unfolding first_counted
-  few = ltb-true c.taken 2048 (ap first_counted at_start ∙ counted_first (lexed 0 bs))
-
-  pub roomy : (o : Code) → vec_len o.nodes ≡ 0 → vec_len o.functions ≡ 0 → vec_len o.formals ≡ 0 → Roomy c o
-  roomy o n f d =
-      let lt = few in
-      let a = o.nodes_room in
-      let b = o.functions_room in
-      let e = o.formals_room in
-      record { few = omega arith; nodes = omega arith; formals = omega arith; functions = omega arith }
-
   long : length (left c) < suc (length (lexed 0 bs))
   long = let e = ap length at_start in let l = tokens_long 0 (lexed 0 bs) in omega arith
 
@@ -99,7 +77,7 @@ means bs p e = record {
 
 -- a reading is no refusal
 reads_apart : (p : Program) (at n : ℕ) → reads p ≡ refuses at n → ⊥
-reads_apart p at n e = let z : ◌≡◌ {A = ℕ} 0 1 = cc in omega arith
+reads_apart p at n e = cc
 
 pub first_refusal_lem : (bs : List ℕ) (at n : ℕ) → outcome (lexed 0 bs) ≡ refuses at n → First bs at n
 first_refusal_lem bs at n e = record {

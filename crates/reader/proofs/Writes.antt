@@ -1,6 +1,5 @@
 -- The code of statements, as it is written. Assumes nothing.
-use Rattle.std.proofs.Common.{◌≡◌, ℕ, ◌+◌, ◌-◌, ◌<◌, ◌≤◌, List, [], ◌∷◌, ◌++◌, length, take, drop, Ok, Err, Result, sym, refl, ap, ◌∙◌, append_assoc, arith, length-append}
-use Rattle.std.proofs.lemmas.List.{drop_at, take-append-le, take_all}
+use Rattle.std.proofs.Common.{◌≡◌, ℕ, ◌+◌, ◌-◌, ◌<◌, ◌≤◌, List, [], ◌∷◌, ◌++◌, length, Ok, Err, Result, sym, ap, ◌∙◌, append_assoc, arith, length-append}
 use Rattle.std.specs.List.{insert}
 use Rattle.script.specs.declared.types.Node.{Node}
 use Rattle.script.specs.declared.types.Node.TheVariants as node
@@ -11,11 +10,8 @@ use Rattle.reader.specs.declared.cursor.Cursor.{Cursor}
 use Rattle.reader.specs.declared.code.Code.{Code}
 use Rattle.reader.specs.Cursor.{left}
 use Rattle.reader.specs.Statements.{Leads, Goes, States}
+use Rattle.reader.proofs.Paths.{insert_at}
 use Rattle.reader.proofs.Says.{Opens, hands_on}
-
--- a node before ns and one after them
-pub around : (xs : List Node) {a b c : List Node} (n m : Node) (ns : List Node) → a ≡ xs ++ (n ∷ []) → b ≡ a ++ ns → c ≡ b ++ (m ∷ []) → c ≡ xs ++ (n ∷ (ns ++ (m ∷ [])))
-around xs n m ns p q r = r ∙ ap (λ l. l ++ (m ∷ [])) (q ∙ ap (λ l. l ++ ns) p) ∙ simp append_assoc
 
 module _ {X Y : Type 0} {k : ℕ} {f h : ℕ → Parser X} {c e : Cursor} (code_of : X → List Node) (i : Cursor) (o p : Code) (l : Leads k f c h e) where
   -- what is read after a token, by what f has come to there
@@ -27,7 +23,7 @@ module _ {X Y : Type 0} {k : ℕ} {f h : ℕ → Parser X} {c e : Cursor} (code_
           tree = a.tree;
           is = λ g lt. l.is g lt ∙ a.is (g - k) (omega (arith, l.fall));
           code = a.code;
-          moved = record { on = omega arith; few = m.few; fall = omega (arith, l.fall); spent = omega arith; grown = m.grown; cap = m.cap; functions = m.functions; formals = m.formals };
+          moved = record { on = omega arith; fall = omega (arith, l.fall); spent = omega arith; grown = m.grown; cap = m.cap; functions = m.functions; formals = m.formals };
           some = omega arith;
         };
         shorter = omega arith;
@@ -41,7 +37,7 @@ module _ {X Y : Type 0} {k : ℕ} {f h : ℕ → Parser X} {c e : Cursor} (code_
         tree = a.tree;
         is = λ g lt. l.is g lt ∙ a.is (g - k) (omega (arith, l.fall));
         code = a.code;
-        moved = record { on = omega arith; few = m.few; fall = omega (arith, l.fall); spent = omega arith; grown = m.grown; cap = m.cap; functions = m.functions; formals = m.formals };
+        moved = record { on = omega arith; fall = omega (arith, l.fall); spent = omega arith; grown = m.grown; cap = m.cap; functions = m.functions; formals = m.formals };
       }
   goes_further (Err b) w a = hands_on l a
 
@@ -52,12 +48,6 @@ opens_reads (Ok y) code_of e o p l a = record {
   shorter = a.shorter;
 }
 opens_reads (Err b) code_of e o p l a = record { rest = a.rest; why = a.why; is = λ g lt. l.is g lt ∙ a.is g lt; told = a.told }
-
-pub insert_at : (xs c ys : List Node) (n : ℕ) (x : Node) → xs ≡ c ++ ys → length c ≡ n → insert xs n x ≡ c ++ (x ∷ ys)
-insert_at xs c ys n x e l =
-    let front : take n (c ++ ys) ≡ c = take-append-le n c ys (omega arith) ∙ take_all n c (omega arith) in
-    let back : drop n (c ++ ys) ≡ ys = drop_at c ys n l in
-    rw (e, front, back) refl
 
 pub rest_long : (a body : List Node) {b : List Node} (m n : ℕ) → b ≡ a ++ body → m ≡ length a → n ≡ length b → n - m ≡ length body
 rest_long a body m n e p q = let l = length-append a body in let k = ap length e in omega arith

@@ -13,7 +13,6 @@ use Rattle.reader.specs.Reading.{Refused}
 
 -- there is room: two nodes and half a formal a token that may still be passed, and a function for six of them
 pub record Roomy (c : Cursor) (o : Code) : Type 0 where
-  pub few : c.taken ≤ 2048
   pub nodes : vec_len o.nodes + 2 * (2048 - c.taken) ≤ vec_capacity o.nodes
   pub formals : 2 * vec_len o.formals + (2048 - c.taken) ≤ 2 * vec_capacity o.formals
   pub functions : 6 * vec_len o.functions + (2048 - c.taken) ≤ 6 * vec_capacity o.functions
@@ -21,7 +20,6 @@ pub record Roomy (c : Cursor) (o : Code) : Type 0 where
 -- tokens were passed from c to e, and what was written kept its room
 pub record Kept (c e : Cursor) (o p : Code) : Type 0 where
   pub on : c.taken ≤ e.taken
-  pub few : e.taken ≤ 2048
   pub fall : length (left e) ≤ length (left c)
   pub nodes : vec_len p.nodes + 2 * (2048 - e.taken) ≤ vec_len o.nodes + 2 * (2048 - c.taken)
   pub formals : 2 * vec_len p.formals + (2048 - e.taken) ≤ 2 * vec_len o.formals + (2048 - c.taken)

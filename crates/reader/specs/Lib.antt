@@ -1,4 +1,5 @@
 pub mod Cursor
+pub mod Binding
 pub mod Reading
 pub mod Terms
 pub mod Statements

@@ -1,16 +1,17 @@
 -- What a step of reading does to the cursor and to the code. Assumes nothing.
 use Rattle.std.specs.Prelude.{◌≡◌, ℕ, ◌+◌, ◌-◌, ◌*◌, ◌<◌, ◌≤◌, true, false, List, ◌++◌, length, Some, None, Ok, Err, vec_items, vec_len, vec_capacity, Option, Result}
+use Rattle.script.specs.declared.types.«Type».{«Type» as Ty}
 use Rattle.script.specs.declared.types.Node.{Node}
 use Rattle.script.specs.declared.types.Name.{Name}
 use Rattle.script.specs.Tree.{Exprs, count}
 use Rattle.script.specs.Flat.{flats}
 use Rattle.tokens.specs.declared.types.Mark.{Mark}
-use Rattle.tokens.specs.Spelling.{item_of, mark}
+use Rattle.tokens.specs.Spelling.{item_of, mark, trouble_number}
 use Rattle.grammar.specs.Tokens.{Tok, offset, first}
 use Rattle.grammar.specs.Combine.{Why, why_bad, why_deep, why_many, out_done, out_fail, Parser, kind_at, is}
-use Rattle.grammar.specs.Parse.{number_of, is_constant, is_name, name_of, value_of}
+use Rattle.grammar.specs.Parse.{number_of, is_name, is_type, name_of, type_of}
 use Rattle.reader.specs.declared.refusal.Reason.{Reason}
-use Rattle.reader.specs.declared.refusal.Reason.TheVariants.{TooLong, NoToken, OpenComment, LargeConstant, Wrong, TooDeep, TooMany}
+use Rattle.reader.specs.declared.refusal.Reason.TheVariants.{TooLong, Trouble, Wrong, TooDeep, TooMany}
 use Rattle.reader.specs.declared.refusal.ReadRefusal.{ReadRefusal}
 use Rattle.reader.specs.declared.cursor.Cursor.{Cursor}
 use Rattle.reader.specs.declared.code.Code.{Code}
@@ -19,9 +20,7 @@ use Rattle.reader.specs.Cursor.{left, after}
 -- the number of a refusal
 abbrev pub reason_number : Reason → ℕ
 reason_number TooLong = 1
-reason_number NoToken = 2
-reason_number OpenComment = 2
-reason_number LargeConstant = 3
+reason_number (Trouble t) = trouble_number t
 reason_number Wrong = 4
 reason_number TooDeep = 5
 reason_number TooMany = 6
@@ -56,19 +55,19 @@ abbrev pub Expects : Mark → ℕ → Cursor → Cursor → Result (Unit {0}) Re
 Expects m d c e (Ok x) = (is (mark m) (kind_at (left c)) ≡ true) × Passed d c e
 Expects m d c e (Err r) = NotExpected m d c r
 
--- the value of the constant at hand, and the range of the name at hand
-abbrev pub IsConstant : List Tok → Option ℕ → Type 0
-IsConstant ts None = is_constant (kind_at ts) ≡ false
-IsConstant ts (Some n) = (is_constant (kind_at ts) ≡ true) × (n ≡ value_of (first ts))
-
+-- the range of the name at hand
 abbrev pub IsName : Cursor → Option Name → Type 0
 IsName c None = is_name (kind_at (left c)) ≡ false
 IsName c (Some x) = (is_name (kind_at (left c)) ≡ true) × (x ≡ name_of (item_of c.here))
 
+-- the type whose keyword is at hand
+abbrev pub IsType : List Tok → Option Ty → Type 0
+IsType ts None = is_type (kind_at ts) ≡ false
+IsType ts (Some t) = (is_type (kind_at ts) ≡ true) × (t ≡ type_of (first ts)) × (1 < kind_at ts)
+
 -- reading went on from the cursor c and the code o to e and p: at most two nodes were written for each token that was passed, and k more
 pub record Moved (k : ℕ) (c e : Cursor) (o p : Code) : Type 0 where
   pub on : c.taken ≤ e.taken
-  pub few : e.taken ≤ 2048
   pub fall : length (left e) ≤ length (left c)
   pub spent : vec_len p.nodes + 2 * (2048 - e.taken) ≤ vec_len o.nodes + 2 * (2048 - c.taken) + k
   pub grown : vec_len o.nodes ≤ vec_len p.nodes
@@ -76,10 +75,9 @@ pub record Moved (k : ℕ) (c e : Cursor) (o p : Code) : Type 0 where
   pub functions : p.functions ≡ o.functions
   pub formals : p.formals ≡ o.formals
 
--- there is room for two nodes a token that may still be passed, less k
-pub record Ready (k : ℕ) (c : Cursor) (o : Code) : Type 0 where
-  pub few : c.taken ≤ 2048
-  pub room : vec_len o.nodes + 2 * (2048 - c.taken) ≤ vec_capacity o.nodes + k
+-- there is room for two nodes a token that may still be passed, and for k more
+abbrev pub Spare : ℕ → Cursor → Code → Type 0
+Spare k c o = vec_len o.nodes + 2 * (2048 - c.taken) + k ≤ vec_capacity o.nodes
 
 -- from c to e a tree was read by f, and its code was written; g is any gas that is enough
 pub record Read {X : Type 0} (f : ℕ → Parser X) (code_of : X → List Node) (c e : Cursor) (o p : Code) : Type 0 where

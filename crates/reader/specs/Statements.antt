@@ -1,14 +1,12 @@
 -- What reading statements does. Assumes nothing.
-use Rattle.std.specs.Prelude.{◌≡◌, ℕ, suc, ◌+◌, ◌-◌, ◌*◌, ◌<◌, ◌≤◌, true, false, List, [], ◌∷◌, ◌++◌, length, Some, None, Ok, Err, vec_items, vec_len, vec_capacity, Option, Result}
-use Rattle.script.specs.declared.types.«Type».{«Type» as Ty}
+use Rattle.std.specs.Prelude.{◌≡◌, ℕ, suc, ◌+◌, ◌-◌, ◌*◌, ◌<◌, ◌≤◌, true, List, [], ◌∷◌, ◌++◌, length, Ok, Err, vec_items, vec_len, Result}
 use Rattle.script.specs.declared.types.Declarator.{Declarator}
 use Rattle.script.specs.declared.types.Node.{Node}
 use Rattle.script.specs.declared.types.Node.TheVariants.{Begin}
 use Rattle.script.specs.Tree.{Expr, Cond, Stmt}
 use Rattle.script.specs.Flat.{flat, flat_cond, flat_stmt, scoped}
-use Rattle.grammar.specs.Tokens.{Tok, first}
-use Rattle.grammar.specs.Combine.{out_done, Parser, after, kind_at}
-use Rattle.grammar.specs.Parse.{is_type, type_of, expression, condition, ended, tests}
+use Rattle.grammar.specs.Combine.{out_done, Parser, after}
+use Rattle.grammar.specs.Parse.{expression, condition, ended, tests}
 use Rattle.reader.specs.declared.refusal.ReadRefusal.{ReadRefusal}
 use Rattle.reader.specs.declared.cursor.Cursor.{Cursor}
 use Rattle.reader.specs.declared.code.Code.{Code}
@@ -20,26 +18,15 @@ pub record Leads {X : Type 0} (k : ℕ) (f : ℕ → Parser X) (c : Cursor) (h :
   pub is : (g : ℕ) → length (left c) < g → f g (left c) ≡ h (g - k) (left e)
   pub fall : length (left e) + k ≤ length (left c)
 
--- the type whose keyword is at hand
-abbrev pub IsType : List Tok → Option Ty → Type 0
-IsType ts None = is_type (kind_at ts) ≡ false
-IsType ts (Some t) = (is_type (kind_at ts) ≡ true) × (t ≡ type_of (first ts)) × (1 < kind_at ts)
-
 -- f read the head of a declaration
 pub record Declared (f : Parser Declarator) (c e : Cursor) (x : Declarator) : Type 0 where
   pub is : f (left c) ≡ out_done x (left e)
   pub on : c.taken + 2 ≤ e.taken
-  pub few : e.taken ≤ 2048
   pub fall : length (left e) + 2 ≤ length (left c)
 
 abbrev pub Declares : Parser Declarator → Cursor → Cursor → Result Declarator ReadRefusal → Type 0
 Declares f c e (Ok x) = Declared f c e x
 Declares f c e (Err r) = Refused (λ g. f) c r
-
--- there is room for two nodes a token that may still be passed, and for k more
-pub record Spare (k : ℕ) (c : Cursor) (o : Code) : Type 0 where
-  pub few : c.taken ≤ 2048
-  pub room : vec_len o.nodes + 2 * (2048 - c.taken) + k ≤ vec_capacity o.nodes
 
 -- from c to e a tree was read by f, and its code was written, with k nodes more than two a token
 pub record Went {X : Type 0} (k : ℕ) (f : ℕ → Parser X) (code_of : X → List Node) (c e : Cursor) (o p : Code) : Type 0 where

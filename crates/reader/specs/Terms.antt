@@ -1,10 +1,8 @@
 -- What the readers of expressions and conditions give one another. A gas is enough here where it is at least the number of tokens left. Assumes nothing.
-use Rattle.std.specs.Prelude.{◌≡◌, ℕ, suc, ◌+◌, ◌-◌, ◌*◌, ◌<◌, ◌≤◌, Bool, true, false, cond, List, [], ◌∷◌, ◌++◌, length, Some, None, Ok, Err, vec_items, vec_len, vec_capacity, Option, Result, ◌==◌}
+use Rattle.std.specs.Prelude.{◌≡◌, ℕ, suc, ◌+◌, ◌-◌, ◌<◌, ◌≤◌, Bool, true, false, List, [], ◌∷◌, ◌++◌, length, Some, None, Ok, Err, vec_items, vec_len, vec_capacity, Option, Result}
 use Rattle.std.specs.List.{insert}
-use Rattle.script.specs.declared.types.«Type».{«Type» as Ty}
 use Rattle.script.specs.declared.types.Comparison.{Comparison}
 use Rattle.script.specs.declared.types.Node.{Node}
-use Rattle.script.specs.declared.types.Node.TheVariants as node
 use Rattle.script.specs.Tree.{Expr, Cond}
 use Rattle.script.specs.Flat.{flat, flat_cond}
 use Rattle.grammar.specs.Tokens.{Tok, first}
@@ -18,11 +16,7 @@ use Rattle.reader.specs.declared.code.Thing.TheVariants.{Expression, Condition}
 use Rattle.reader.specs.Cursor.{left}
 use Rattle.reader.specs.Reading.{Refusal, Moved}
 
--- the type and the comparison at hand
-abbrev pub IsType : List Tok → Option Ty → Type 0
-IsType ts None = is_type (kind_at ts) ≡ false
-IsType ts (Some t) = (is_type (kind_at ts) ≡ true) × (t ≡ type_of (first ts)) × (1 < kind_at ts)
-
+-- the comparison at hand
 abbrev pub IsComparison : List Tok → Option Comparison → Type 0
 IsComparison ts None = compares (kind_at ts) ≡ false
 IsComparison ts (Some o) = (compares (kind_at ts) ≡ true) × (o ≡ comparison_of (first ts)) × (1 < kind_at ts)
@@ -46,10 +40,6 @@ pub record Inserted (i : ℕ) (n : Node) (o p : Code) : Type 0 where
   pub cap : vec_capacity o.nodes ≤ vec_capacity p.nodes
   pub functions : p.functions ≡ o.functions
   pub formals : p.formals ≡ o.formals
-
--- the node of a chain of conditions
-abbrev pub join_node : ℕ → ℕ → Node
-join_node n skip = cond (n == 1) (node.And skip) (node.Or skip)
 
 -- the code of what was read, and which it is
 abbrev pub flat_thing : Either → List Node
@@ -104,12 +94,8 @@ conditions must n g d = condition_by must d (suc g) (negation must (suc g) d) (n
 abbrev pub joining_on : ℕ → ℕ → ℕ → ℕ → Cond → Parser Cond
 joining_on d n g h = loop d (joins n) (joined (condition_by true d g (negation true g d) (negation true g d) (n - 1))) h
 
--- there is room for two nodes a token that may still be passed, and k more
-pub record Spare (k : ℕ) (c : Cursor) (o : Code) : Type 0 where
-  pub few : c.taken ≤ 2048
-  pub room : vec_len o.nodes + 2 * (2048 - c.taken) + k ≤ vec_capacity o.nodes
-
 -- from c to e a tree was read by f, and its code was written, in k nodes more than two a token
+-- (Statements says the same of a gas above the number of tokens left: made one, either would be read at a predecessor, which is no plainer)
 pub record Went {X : Type 0} (k : ℕ) (f : ℕ → Parser X) (code_of : X → List Node) (c e : Cursor) (o p : Code) : Type 0 where
   pub tree : X
   pub is : (g : ℕ) → length (left c) ≤ g → f g (left c) ≡ out_done tree (left e)

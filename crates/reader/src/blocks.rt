@@ -5,51 +5,53 @@ ghost use Rattle.script.specs.Flat.{flat_stmt, flat_stmts};
 ghost use Rattle.tokens.specs.declared.types.Mark.TheVariants.{RightBrace};
 ghost use Rattle.grammar.specs.Combine.{after, ret, want};
 ghost use Rattle.grammar.specs.Parse.{condition as condition-at, statement as statement-at, statements as statements-at, tests as tests-of, otherwise};
-ghost use Rattle.reader.specs.Reading.{Ready};
-ghost use Rattle.reader.specs.Statements.{Spare, Goes, States, flat_body};
+ghost use Rattle.reader.specs.Reading.{Spare};
+ghost use Rattle.reader.specs.Statements.{Goes, States, flat_body};
 
 use crate::code::Code;
 use crate::cursor::Cursor;
 use crate::refusal::ReadRefusal;
 use script::Node;
-use tokens::{Keyword, Mark};
+use tokens::{Keyword, Mark, Token};
 
 impl Code {
     #[cycle(blocks)]
     pub(crate) fn statement(&mut self, cursor: &mut Cursor, depth: usize) -> Result<(), ReadRefusal>
-        requires { Ready 0 cursor.old self.old }
+        requires { Spare 0 cursor.old self.old }
         ensures { States (λ g. statement-at g depth) flat_stmt cursor.old cursor.new self.old self.new result }
     {
-        let at = cursor.here.at;
         if let Some(name) = cursor.name() {
             cursor.take(depth)?;
             return self.assignment(cursor, depth, name);
         }
-        if cursor.at_keyword(Keyword::If) {
-            cursor.take(depth)?;
-            return self.choice(cursor, depth, at);
+        let at = cursor.here.at;
+        match cursor.here.token {
+            Token::Keyword(Keyword::If) => {
+                cursor.take(depth)?;
+                self.choice(cursor, depth, at)
+            }
+            Token::Keyword(Keyword::While) => {
+                cursor.take(depth)?;
+                self.repetition(cursor, depth, at)
+            }
+            Token::Keyword(Keyword::Free) => {
+                cursor.take(depth)?;
+                self.ended(cursor, depth, at, Node::Free)
+            }
+            Token::Keyword(Keyword::Print) => {
+                cursor.take(depth)?;
+                self.ended(cursor, depth, at, Node::Print)
+            }
+            Token::Keyword(Keyword::Return) => {
+                cursor.take(depth)?;
+                self.ended(cursor, depth, at, Node::Return)
+            }
+            Token::Mark(Mark::LeftBrace) => {
+                cursor.take(depth)?;
+                self.block(cursor, depth, at)
+            }
+            _ => self.declaration(cursor, depth),
         }
-        if cursor.at_keyword(Keyword::While) {
-            cursor.take(depth)?;
-            return self.repetition(cursor, depth, at);
-        }
-        if cursor.at_keyword(Keyword::Free) {
-            cursor.take(depth)?;
-            return self.ended(cursor, depth, at, Node::Free);
-        }
-        if cursor.at_keyword(Keyword::Print) {
-            cursor.take(depth)?;
-            return self.ended(cursor, depth, at, Node::Print);
-        }
-        if cursor.at_keyword(Keyword::Return) {
-            cursor.take(depth)?;
-            return self.ended(cursor, depth, at, Node::Return);
-        }
-        if cursor.at_mark(Mark::LeftBrace) {
-            cursor.take(depth)?;
-            return self.block(cursor, depth, at);
-        }
-        self.declaration(cursor, depth)
     }
 
     // An if, after its keyword. What it skips is written once its length is known.
@@ -63,15 +65,15 @@ impl Code {
         self.body(cursor, depth + 1)?;
         let skip = self.nodes.len() - start;
         if !cursor.at_keyword(Keyword::Else) {
-            self.place(start, Node::Then { skip });
+            self.insert(start, Node::Then { skip });
             return Ok(());
         }
         cursor.take(depth)?;
-        self.place(start, Node::Then { skip: skip + 1 });
+        self.insert(start, Node::Then { skip: skip + 1 });
         let other = self.nodes.len();
         self.body(cursor, depth + 1)?;
         let passed = self.nodes.len() - other;
-        self.place(other, Node::Else { skip: passed });
+        self.insert(other, Node::Else { skip: passed });
         Ok(())
     }
 
@@ -91,9 +93,9 @@ impl Code {
         let start = self.test(cursor, depth, at)?;
         self.body(cursor, depth + 1)?;
         let skip = self.nodes.len() - start + 1;
-        self.place(start, Node::Loop { skip });
+        self.insert(start, Node::Loop { skip });
         let back = self.nodes.len() - begin;
-        self.nodes.push_reserved(Node::Back { skip: back });
+        self.push(Node::Back { skip: back });
         Ok(())
     }
 
@@ -104,7 +106,7 @@ impl Code {
         ensures { Goes 1 (λ g. statement-at g depth) flat_body cursor.old cursor.new self.old self.new result }
     {
         self.statement(cursor, depth)?;
-        self.nodes.push_reserved(Node::EndScope);
+        self.push(Node::EndScope);
         Ok(())
     }
 
@@ -115,10 +117,10 @@ impl Code {
         requires deep { depth ≤ 64 }
         ensures { Goes 2 (λ g. after (statements-at g (suc depth)) (λ x. want depth RightBrace (ret (block at x)))) flat_stmt cursor.old cursor.new self.old self.new result }
     {
-        self.nodes.push_reserved(Node::BeginBlock { at });
+        self.push(Node::BeginBlock { at });
         self.statements(cursor, depth + 1)?;
         cursor.expect(Mark::RightBrace, depth)?;
-        self.nodes.push_reserved(Node::EndScope);
+        self.push(Node::EndScope);
         Ok(())
     }
 
@@ -129,7 +131,7 @@ impl Code {
         cursor: &mut Cursor,
         depth: usize,
     ) -> Result<(), ReadRefusal>
-        requires { Ready 0 cursor.old self.old }
+        requires { Spare 0 cursor.old self.old }
         ensures { Goes 0 (λ g. statements-at g depth) flat_stmts cursor.old cursor.new self.old self.new result }
     {
         while cursor.at_statement() {

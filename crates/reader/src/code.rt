@@ -3,6 +3,7 @@ ghost use Rattle.std.specs.Prelude.{◌≤◌, vec_capacity};
 
 use script::{Declarator, Function, Node};
 
+// Readers take a cursor beside it, and say what room both leave: the cursor borrows the source, and the script, whose code this is, outlives that.
 #[derive(Drop)]
 pub(crate) struct Code {
     pub(crate) nodes: Vec<Node>,

@@ -3,7 +3,8 @@ ghost use Rattle.std.specs.Prelude.{◌≡◌};
 ghost use Rattle.grammar.specs.Combine.{kind_at};
 ghost use Rattle.grammar.specs.Parse.{declares, begins, typed, declarator};
 ghost use Rattle.reader.specs.Cursor.{left};
-ghost use Rattle.reader.specs.Statements.{IsType, Declares};
+ghost use Rattle.reader.specs.Reading.{IsType};
+ghost use Rattle.reader.specs.Statements.{Declares};
 
 use crate::cursor::Cursor;
 use crate::refusal::ReadRefusal;
@@ -12,16 +13,13 @@ use tokens::{Keyword, Mark, Token};
 
 impl Cursor<'_> {
     // The type whose keyword is at hand, if it is one.
-    fn type_here(&self) -> Option<Type>
+    pub(crate) fn type_here(&self) -> Option<Type>
         ensures { IsType (left self.now) result }
     {
         match self.here.token {
-            Token::Keyword(k) => match k {
-                Keyword::Int => Some(Type::Int),
-                Keyword::Ref => Some(Type::Ref),
-                Keyword::Q => Some(Type::Q),
-                _ => None,
-            },
+            Token::Keyword(Keyword::Int) => Some(Type::Int),
+            Token::Keyword(Keyword::Ref) => Some(Type::Ref),
+            Token::Keyword(Keyword::Q) => Some(Type::Q),
             _ => None,
         }
     }
@@ -30,13 +28,10 @@ impl Cursor<'_> {
     pub(crate) fn at_declaration(&self) -> bool
         ensures { result ≡ declares (kind_at (left self.now)) }
     {
-        match self.here.token {
-            Token::Keyword(k) => match k {
-                Keyword::Mutable | Keyword::Int | Keyword::Ref | Keyword::Q => true,
-                _ => false,
-            },
-            _ => false,
-        }
+        matches!(
+            self.here.token,
+            Token::Keyword(Keyword::Mutable | Keyword::Int | Keyword::Ref | Keyword::Q)
+        )
     }
 
     // A statement begins here.
@@ -44,12 +39,8 @@ impl Cursor<'_> {
         ensures { result ≡ begins (kind_at (left self.now)) }
     {
         match self.here.token {
-            Token::Name(_) => true,
-            Token::Keyword(k) => match k {
-                Keyword::Else | Keyword::Nil => false,
-                _ => true,
-            },
-            Token::Mark(_) => self.at_mark(Mark::LeftBrace),
+            Token::Name(_) | Token::Mark(Mark::LeftBrace) => true,
+            Token::Keyword(keyword) => !matches!(keyword, Keyword::Else | Keyword::Nil),
             _ => false,
         }
     }

@@ -3,30 +3,31 @@ ghost use Rattle.std.specs.Prelude.{◌≡◌, ◌<◌, true};
 ghost use Rattle.tokens.specs.Spelling.{mark as sign, keyword as word};
 ghost use Rattle.grammar.specs.Combine.{why_bad, kind_at, is};
 ghost use Rattle.reader.specs.Cursor.{left};
-ghost use Rattle.reader.specs.Reading.{Refusal, Passes, Expects, IsConstant, IsName};
+ghost use Rattle.reader.specs.Reading.{Refusal, Passes, Expects, IsName};
 
 use crate::cursor::Cursor;
 use crate::refusal::{ReadRefusal, Reason};
 use script::Name;
-use tokens::{Keyword, Mark, Token, Trouble};
+use tokens::{Keyword, Mark, Token};
 
 impl<'a> Cursor<'a> {
+    fn refusal(&self, reason: Reason) -> ReadRefusal
+        ensures at { result.at ≡ self.now.here.at }
+        ensures reason { result.reason ≡ reason }
+    {
+        ReadRefusal {
+            at: self.here.at,
+            reason,
+        }
+    }
+
     // The token at hand cannot stand here.
     pub(crate) fn wrong(&self) -> ReadRefusal
         ensures { Refusal (left self.now) why_bad result }
     {
-        let reason = match self.here.token {
-            Token::Trouble(t) => match t {
-                Trouble::NoToken => Reason::NoToken,
-                Trouble::OpenComment => Reason::OpenComment,
-                Trouble::LargeConstant => Reason::LargeConstant,
-            },
-            Token::Name(_) | Token::Constant(_) | Token::Keyword(_) | Token::Mark(_) | Token::End =>
-                Reason::Wrong,
-        };
-        ReadRefusal {
-            at: self.here.at,
-            reason,
+        match self.here.token {
+            Token::Trouble(trouble) => self.refusal(Reason::Trouble(trouble)),
+            _ => self.refusal(Reason::Wrong),
         }
     }
 
@@ -36,16 +37,10 @@ impl<'a> Cursor<'a> {
         ensures { Passes depth self.old self.new result }
     {
         if depth > 64 {
-            return Err(ReadRefusal {
-                at: self.here.at,
-                reason: Reason::TooDeep,
-            });
+            return Err(self.refusal(Reason::TooDeep));
         }
         if self.taken >= 2048 {
-            return Err(ReadRefusal {
-                at: self.here.at,
-                reason: Reason::TooMany,
-            });
+            return Err(self.refusal(Reason::TooMany));
         }
         self.advance();
         Ok(())
@@ -55,30 +50,14 @@ impl<'a> Cursor<'a> {
         ensures value { result ≡ is (sign mark) (kind_at (left self.now)) }
         ensures token { result ≡ true → 1 < kind_at (left self.now) }
     {
-        match self.here.token {
-            Token::Mark(m) => m == mark,
-            _ => false,
-        }
+        matches!(self.here.token, Token::Mark(here) if here == mark)
     }
 
     pub(crate) fn at_keyword(&self, keyword: Keyword) -> bool
         ensures value { result ≡ is (word keyword) (kind_at (left self.now)) }
         ensures token { result ≡ true → 1 < kind_at (left self.now) }
     {
-        match self.here.token {
-            Token::Keyword(k) => k == keyword,
-            _ => false,
-        }
-    }
-
-    // The value of the constant at hand, if it is one.
-    pub(crate) fn constant(&self) -> Option<u64>
-        ensures { IsConstant (left self.now) result }
-    {
-        match self.here.token {
-            Token::Constant(n) => Some(n),
-            _ => None,
-        }
+        matches!(self.here.token, Token::Keyword(here) if here == keyword)
     }
 
     // The range of the name at hand, if it is one.

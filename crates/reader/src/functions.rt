@@ -14,10 +14,7 @@ impl Cursor<'_> {
     fn at_end(&self) -> bool
         ensures { result ≡ (kind_at (left self.now) == 0) }
     {
-        match self.here.token {
-            Token::End => true,
-            _ => false,
-        }
+        matches!(self.here.token, Token::End)
     }
 }
 
@@ -29,7 +26,7 @@ impl Code {
     {
         let formal = cursor.declarator(1)?;
         self.formals.push_reserved(formal);
-        self.nodes.push_reserved(Node::Formal { formal });
+        self.push(Node::Formal { formal });
         Ok(())
     }
 
@@ -57,7 +54,7 @@ impl Code {
         let first = self.formals.len();
         let head = cursor.declarator(0)?;
         cursor.expect(Mark::LeftParen, 0)?;
-        self.nodes.push_reserved(Node::Enter { head });
+        self.push(Node::Enter { head });
         self.formals_after(cursor)?;
         cursor.expect(Mark::LeftBrace, 0)?;
         let formals = self.formals.len() - first;
@@ -65,7 +62,7 @@ impl Code {
         self.statements(cursor, 1)?;
         let close = cursor.here.at;
         cursor.expect(Mark::RightBrace, 0)?;
-        self.nodes.push_reserved(Node::Leave { at: close });
+        self.push(Node::Leave { at: close });
         self.functions.push_reserved(Function {
             head,
             first,

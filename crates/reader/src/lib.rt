@@ -1,6 +1,7 @@
 // Reading a script: recursive descent over the tokens of a source.
 #![tactic(auto)]
 
+mod binding;
 mod blocks;
 mod code;
 mod cursor;

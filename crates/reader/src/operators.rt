@@ -1,98 +1,68 @@
-// Which operator, comparison or type the token at hand is.
-ghost use Rattle.std.specs.Prelude.{◌≡◌};
-ghost use Rattle.grammar.specs.Tokens.{first};
+// Which operator or comparison the token at hand is.
+ghost use Rattle.std.specs.Prelude.{◌≡◌, ◌<◌, true};
 ghost use Rattle.grammar.specs.Combine.{kind_at};
-ghost use Rattle.grammar.specs.Parse.{binding, operator_of, joining};
+ghost use Rattle.grammar.specs.Parse.{joining, joins};
 ghost use Rattle.reader.specs.Cursor.{left};
-ghost use Rattle.reader.specs.Terms.{IsType, IsComparison};
+ghost use Rattle.reader.specs.Binding.{join_rank, IsBinary, IsOperator};
+ghost use Rattle.reader.specs.Terms.{IsComparison};
 
+use crate::binding::{Binding, Join};
 use crate::cursor::Cursor;
-use script::{Comparison, Operator, Type};
-use tokens::{Keyword, Mark};
+use script::{Comparison, Operator};
+use tokens::{Mark, Token};
 
 impl<'a> Cursor<'a> {
-    // How tightly the binary operator at hand binds, and 0 if there is none.
-    pub(crate) fn binding(&self) -> u8
-        ensures { result ≡ binding (kind_at (left self.now)) }
+    // The binary operator at hand, and how tightly it binds.
+    fn binary(&self) -> Option<(Operator, Binding)>
+        ensures { IsBinary (left self.now) result }
     {
-        if self.at_mark(Mark::Star) {
-            return 1;
-        }
-        if self.at_mark(Mark::Plus) {
-            return 2;
-        }
-        if self.at_mark(Mark::Minus) {
-            return 2;
-        }
-        if self.at_mark(Mark::Dot) { 3 } else { 0 }
-    }
-
-    // The binary operator at hand, which is one.
-    pub(crate) fn operator(&self) -> Operator
-        ensures { result ≡ operator_of (first (left self.now)) }
-    {
-        if self.at_mark(Mark::Star) {
-            return Operator::Multiply;
-        }
-        if self.at_mark(Mark::Plus) {
-            return Operator::Add;
-        }
-        if self.at_mark(Mark::Minus) {
-            Operator::Subtract
-        } else {
-            Operator::Dot
+        match self.here.token {
+            Token::Mark(Mark::Star) => Some((Operator::Multiply, Binding::Product)),
+            Token::Mark(Mark::Plus) => Some((Operator::Add, Binding::Sum)),
+            Token::Mark(Mark::Minus) => Some((Operator::Subtract, Binding::Sum)),
+            Token::Mark(Mark::Dot) => Some((Operator::Dot, Binding::Dot)),
+            _ => None,
         }
     }
 
-    // How tightly the `&&` or `||` at hand binds, and 0 if there is none.
-    pub(crate) fn joining(&self) -> u8
-        ensures { result ≡ joining (kind_at (left self.now)) }
+    // The binary operator at hand, if it binds so tightly.
+    pub(crate) fn operator_at(&self, binding: Binding) -> Option<Operator>
+        ensures { IsOperator binding (left self.now) result }
     {
-        if self.at_mark(Mark::AndAnd) {
-            return 1;
+        let (operator, binds) = self.binary()?;
+        (binds == binding).then_some(operator)
+    }
+
+    // The `&&` or `||` at hand.
+    fn joining(&self) -> Option<Join>
+        ensures { join_rank result ≡ joining (kind_at (left self.now)) }
+    {
+        match self.here.token {
+            Token::Mark(Mark::AndAnd) => Some(Join::And),
+            Token::Mark(Mark::OrOr) => Some(Join::Or),
+            _ => None,
         }
-        if self.at_mark(Mark::OrOr) { 2 } else { 0 }
+    }
+
+    // The `&&` or `||` at hand binds so tightly.
+    pub(crate) fn joins(&self, join: Join) -> bool
+        ensures value { result ≡ joins (join_rank (Some join)) (kind_at (left self.now)) }
+        ensures token { result ≡ true → 1 < kind_at (left self.now) }
+    {
+        self.joining() == Some(join)
     }
 
     pub(crate) fn comparison(&self) -> Option<Comparison>
         ensures { IsComparison (left self.now) result }
     {
-        if self.at_mark(Mark::LessEqual) {
-            return Some(Comparison::LessEqual);
-        }
-        if self.at_mark(Mark::GreaterEqual) {
-            return Some(Comparison::GreaterEqual);
-        }
-        if self.at_mark(Mark::EqualEqual) {
-            return Some(Comparison::Equal);
-        }
-        if self.at_mark(Mark::NotEqual) {
-            return Some(Comparison::NotEqual);
-        }
-        if self.at_mark(Mark::Less) {
-            return Some(Comparison::Less);
-        }
-        if self.at_mark(Mark::Greater) {
-            Some(Comparison::Greater)
-        } else {
-            None
-        }
-    }
-
-    // The type at hand, if it is one.
-    pub(crate) fn ty(&self) -> Option<Type>
-        ensures { IsType (left self.now) result }
-    {
-        if self.at_keyword(Keyword::Int) {
-            return Some(Type::Int);
-        }
-        if self.at_keyword(Keyword::Ref) {
-            return Some(Type::Ref);
-        }
-        if self.at_keyword(Keyword::Q) {
-            Some(Type::Q)
-        } else {
-            None
+        match self.here.token {
+            Token::Mark(Mark::LessEqual) => Some(Comparison::LessEqual),
+            Token::Mark(Mark::GreaterEqual) => Some(Comparison::GreaterEqual),
+            Token::Mark(Mark::EqualEqual) => Some(Comparison::Equal),
+            Token::Mark(Mark::NotEqual) => Some(Comparison::NotEqual),
+            Token::Mark(Mark::Less) => Some(Comparison::Less),
+            Token::Mark(Mark::Greater) => Some(Comparison::Greater),
+            _ => None,
         }
     }
 }

@@ -17,9 +17,7 @@ impl ReadRefusal {
     {
         match self.reason {
             Reason::TooLong => 1,
-            Reason::NoToken => 2,
-            Reason::OpenComment => 2,
-            Reason::LargeConstant => 3,
+            Reason::Trouble(trouble) => trouble.number(),
             Reason::Wrong => 4,
             Reason::TooDeep => 5,
             Reason::TooMany => 6,
@@ -78,10 +76,8 @@ impl ReadScript {
             self.code.clear();
             return Err(refusal);
         }
-        match self.source.extend_from_slice(source) {
-            Ok(()) => Ok(()),
-            Err(_) => unreachable(),
-        }
+        self.source.extend_from_slice(source).unwrap();
+        Ok(())
     }
 
     pub fn source(&self) -> &[u8]

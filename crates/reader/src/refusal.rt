@@ -1,11 +1,10 @@
 // Why a source is not read.
+use tokens::Trouble;
 
 #[derive(Clone, Copy, Debug, PartialEq, Eq)]
 pub enum Reason {
     TooLong,
-    NoToken,
-    OpenComment,
-    LargeConstant,
+    Trouble(Trouble),
     Wrong,
     TooDeep,
     TooMany,

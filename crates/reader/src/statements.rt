@@ -1,10 +1,9 @@
 // Statements that hold no others, and the parts of those that do.
-ghost use Rattle.std.specs.Prelude.{◌≡◌, suc, ◌+◌, ◌-◌, ◌<◌, ◌≤◌, vec_len, vec_capacity};
-ghost use Rattle.std.specs.List.{insert};
+ghost use Rattle.std.specs.Prelude.{suc, ◌-◌, ◌≤◌};
 ghost use Rattle.script.specs.Flat.{flat_stmt};
 ghost use Rattle.grammar.specs.Parse.{expression, declaration, assignment};
-ghost use Rattle.reader.specs.Reading.{Ready};
-ghost use Rattle.reader.specs.Statements.{Spare, Goes, States, Ends, Tests};
+ghost use Rattle.reader.specs.Reading.{Spare};
+ghost use Rattle.reader.specs.Statements.{Goes, States, Ends, Tests};
 
 use crate::code::Code;
 use crate::cursor::Cursor;
@@ -13,22 +12,6 @@ use script::{Name, Node};
 use tokens::Mark;
 
 impl Code {
-    // Writes a node before those from `start` on.
-    pub(crate) fn place(&mut self, start: usize, node: Node)
-        requires within { start ≤ vec_len self.old.nodes }
-        requires roomy { vec_len self.old.nodes < vec_capacity self.old.nodes }
-        ensures items { self.new.nodes.items ≡ insert self.old.nodes.items start node }
-        ensures len { vec_len self.new.nodes ≡ vec_len self.old.nodes + 1 }
-        ensures capacity { vec_capacity self.old.nodes ≤ vec_capacity self.new.nodes }
-        ensures functions { self.new.functions ≡ self.old.functions }
-        ensures formals { self.new.formals ≡ self.old.formals }
-    {
-        match self.nodes.insert(start, node) {
-            Ok(()) => {}
-            Err(_) => unreachable(),
-        }
-    }
-
     // An expression and a semicolon, which a node ends.
     pub(crate) fn ended(
         &mut self,
@@ -40,10 +23,10 @@ impl Code {
         requires { Spare 2 cursor.old self.old }
         ensures { Ends depth at node cursor.old cursor.new self.old self.new result }
     {
-        self.nodes.push_reserved(Node::Begin { at });
+        self.push(Node::Begin { at });
         self.expression(cursor, depth)?;
         cursor.expect(Mark::Semicolon, depth)?;
-        self.nodes.push_reserved(node);
+        self.push(node);
         Ok(())
     }
 
@@ -52,7 +35,7 @@ impl Code {
         cursor: &mut Cursor,
         depth: usize,
     ) -> Result<(), ReadRefusal>
-        requires { Ready 0 cursor.old self.old }
+        requires { Spare 0 cursor.old self.old }
         ensures { States (λ g. declaration depth (expression (g - 1) depth)) flat_stmt cursor.old cursor.new self.old self.new result }
     {
         let at = cursor.here.at;
@@ -76,11 +59,10 @@ impl Code {
             return self.ended(cursor, depth, name.at, Node::Assign { name });
         }
         cursor.expect(Mark::LeftParen, depth)?;
-        self.nodes.push_reserved(Node::Begin { at: name.at });
+        self.push(Node::Begin { at: name.at });
         let actuals = self.actuals(cursor, depth)?;
         cursor.expect(Mark::Semicolon, depth)?;
-        self.nodes
-            .push_reserved(Node::CallStatement { name, actuals });
+        self.push(Node::CallStatement { name, actuals });
         Ok(())
     }
 
@@ -96,7 +78,7 @@ impl Code {
         ensures { Tests depth at cursor.old cursor.new self.old self.new result }
     {
         cursor.expect(Mark::LeftParen, depth)?;
-        self.nodes.push_reserved(Node::Begin { at });
+        self.push(Node::Begin { at });
         self.condition(cursor, depth + 1)?;
         cursor.expect(Mark::RightParen, depth)?;
         Ok(self.nodes.len())

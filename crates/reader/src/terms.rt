@@ -2,15 +2,16 @@
 ghost use Rattle.std.specs.Prelude.{suc, ◌<◌, ◌≤◌, true, vec_len};
 ghost use Rattle.script.specs.Flat.{flat, flat_cond};
 ghost use Rattle.grammar.specs.Parse.{expression, condition, actuals, named, operand, negation};
-ghost use Rattle.reader.specs.Reading.{Ready, Reads, ReadsActuals};
-ghost use Rattle.reader.specs.Terms.{Deeper, Spare, Goes, Gives, Follows, Compares, operands, levels, chained, inside, bracketed, conditions, joining_on, flat_got, got_is, flat_found, found_is};
+ghost use Rattle.reader.specs.Binding.{rank, join_rank};
+ghost use Rattle.reader.specs.Reading.{Spare, Reads, ReadsActuals};
+ghost use Rattle.reader.specs.Terms.{Deeper, Goes, Gives, Follows, Compares, operands, levels, chained, inside, bracketed, conditions, joining_on, flat_got, got_is, flat_found, found_is};
 
+use crate::binding::{Binding, Join};
 use crate::code::{Code, Thing};
 use crate::cursor::Cursor;
 use crate::refusal::ReadRefusal;
-use crate::write::join;
 use script::{Name, Node};
-use tokens::{Keyword, Mark};
+use tokens::{Keyword, Mark, Token};
 
 // One deeper; no token may stand beyond 64, so that there is no need to count on.
 fn deeper(depth: usize) -> usize
@@ -21,24 +22,26 @@ fn deeper(depth: usize) -> usize
 
 impl Code {
     // An expression.
+    #[tactic(auto, using(crate::proofs::Operands::refused_whole, crate::proofs::Operands::read_whole))]
     pub(crate) fn expression(
         &mut self,
         cursor: &mut Cursor,
         depth: usize,
     ) -> Result<(), ReadRefusal>
-        requires { Ready 0 cursor.old self.old }
+        requires { Spare 0 cursor.old self.old }
         ensures { Reads (λ g. expression g depth) flat cursor.old cursor.new self.old self.new result }
     {
-        self.level(cursor, depth, false, 3)?;
+        self.level(cursor, depth, false, Some(Binding::Dot))?;
         Ok(())
     }
 
     // A condition.
+    #[tactic(auto, using(crate::proofs::Operands::refused_whole, crate::proofs::Operands::read_whole))]
     pub(crate) fn condition(&mut self, cursor: &mut Cursor, depth: usize) -> Result<(), ReadRefusal>
-        requires { Ready 0 cursor.old self.old }
+        requires { Spare 0 cursor.old self.old }
         ensures { Reads (λ g. condition true g depth) flat_cond cursor.old cursor.new self.old self.new result }
     {
-        self.conditions(cursor, depth, true, 2)?;
+        self.conditions(cursor, depth, true, Some(Join::Or))?;
         Ok(())
     }
 
@@ -49,7 +52,7 @@ impl Code {
         cursor: &mut Cursor,
         depth: usize,
     ) -> Result<usize, ReadRefusal>
-        requires { Ready 0 cursor.old self.old }
+        requires { Spare 0 cursor.old self.old }
         ensures { ReadsActuals (λ g. actuals depth g (expression g (suc depth))) cursor.old cursor.new self.old self.new result }
     {
         if cursor.at_mark(Mark::RightParen) {
@@ -57,11 +60,11 @@ impl Code {
             return Ok(0);
         }
         let inner = deeper(depth);
-        self.level(cursor, inner, false, 3)?;
+        self.level(cursor, inner, false, Some(Binding::Dot))?;
         let mut count = 1;
         while cursor.at_mark(Mark::Comma) {
             cursor.take(inner)?;
-            self.level(cursor, inner, false, 3)?;
+            self.level(cursor, inner, false, Some(Binding::Dot))?;
             count += 1;
         }
         cursor.expect(Mark::RightParen, depth)?;
@@ -96,16 +99,17 @@ impl Code {
         depth: usize,
         merged: bool,
     ) -> Result<Thing, ReadRefusal>
-        requires { Ready 0 cursor.old self.old }
+        requires { Spare 0 cursor.old self.old }
         ensures { Gives 0 (λ g. inside merged (suc g) depth) (flat_got merged) (got_is merged) cursor.old cursor.new self.old self.new result }
     {
         if merged {
-            return self.conditions(cursor, depth, false, 2);
+            return self.conditions(cursor, depth, false, Some(Join::Or));
         }
-        self.level(cursor, depth, false, 3)
+        self.level(cursor, depth, false, Some(Binding::Dot))
     }
 
     // A cast or a group, after its opening parenthesis.
+    // `depth ≤ 64` is in five contracts, since a token was passed there: a type for it would be taken apart again at each mark that is wanted at `depth`.
     #[cycle(terms)]
     fn bracket(
         &mut self,
@@ -114,11 +118,11 @@ impl Code {
         merged: bool,
         at: usize,
     ) -> Result<Thing, ReadRefusal>
-        requires ready { Ready 0 cursor.old self.old }
+        requires ready { Spare 0 cursor.old self.old }
         requires deep { depth ≤ 64 }
         ensures { Gives 0 (λ g. bracketed merged depth (operand (suc g) (suc depth)) (inside merged (suc g) (suc depth)) at) (flat_got merged) (got_is merged) cursor.old cursor.new self.old self.new result }
     {
-        if let Some(to) = cursor.ty() {
+        if let Some(to) = cursor.type_here() {
             cursor.take(depth)?;
             cursor.expect(Mark::RightParen, depth)?;
             self.push(Node::Begin { at });
@@ -138,61 +142,62 @@ impl Code {
         depth: usize,
         merged: bool,
     ) -> Result<Thing, ReadRefusal>
-        requires { Ready 0 cursor.old self.old }
+        requires { Spare 0 cursor.old self.old }
         ensures { Gives 0 (λ g. operands merged g depth) (flat_got merged) (got_is merged) cursor.old cursor.new self.old self.new result }
     {
-        let at = cursor.here.at;
-        if let Some(value) = cursor.constant() {
-            cursor.take(depth)?;
-            self.push(Node::Constant { at, value });
-            return Ok(Thing::Expression);
-        }
         if let Some(name) = cursor.name() {
             cursor.take(depth)?;
             self.named(cursor, depth, name)?;
             return Ok(Thing::Expression);
         }
-        if cursor.at_keyword(Keyword::Nil) {
-            cursor.take(depth)?;
-            self.push(Node::Nil { at });
-            return Ok(Thing::Expression);
+        let at = cursor.here.at;
+        match cursor.here.token {
+            Token::Constant(value) => {
+                cursor.take(depth)?;
+                self.push(Node::Constant { at, value });
+                Ok(Thing::Expression)
+            }
+            Token::Keyword(Keyword::Nil) => {
+                cursor.take(depth)?;
+                self.push(Node::Nil { at });
+                Ok(Thing::Expression)
+            }
+            Token::Mark(Mark::Minus) => {
+                cursor.take(depth)?;
+                self.push(Node::Begin { at });
+                self.operand(cursor, depth + 1, false)?;
+                self.push(Node::Negate { at });
+                Ok(Thing::Expression)
+            }
+            Token::Mark(Mark::LeftParen) => {
+                cursor.take(depth)?;
+                self.bracket(cursor, depth, merged, at)
+            }
+            _ => Err(cursor.wrong()),
         }
-        if cursor.at_mark(Mark::Minus) {
-            cursor.take(depth)?;
-            self.push(Node::Begin { at });
-            self.operand(cursor, depth + 1, false)?;
-            self.push(Node::Negate { at });
-            return Ok(Thing::Expression);
-        }
-        if !cursor.at_mark(Mark::LeftParen) {
-            return Err(cursor.wrong());
-        }
-        cursor.take(depth)?;
-        self.bracket(cursor, depth, merged, at)
     }
 
-    // A chain of binary operators: 1 for products, 2 for sums of these, 3 for dots of these, and 0 for an operand.
+    // A chain of binary operators, or an operand.
     #[cycle(terms)]
     fn level(
         &mut self,
         cursor: &mut Cursor,
         depth: usize,
         merged: bool,
-        n: u8,
+        binding: Option<Binding>,
     ) -> Result<Thing, ReadRefusal>
-        requires ready { Ready 0 cursor.old self.old }
-        requires known { n ≤ 3 }
-        ensures { Gives 0 (λ g. levels merged n g depth) (flat_got merged) (got_is merged) cursor.old cursor.new self.old self.new result }
+        requires { Spare 0 cursor.old self.old }
+        ensures { Gives 0 (λ g. levels merged (rank binding) g depth) (flat_got merged) (got_is merged) cursor.old cursor.new self.old self.new result }
     {
-        if n == 0 {
+        let Some(binding) = binding else {
             return self.operand(cursor, depth, merged);
-        }
+        };
         let start = cursor.here.at;
         let from = self.nodes.len();
-        match self.level(cursor, depth, merged, n - 1)? {
+        match self.level(cursor, depth, merged, binding.tighter())? {
             Thing::Condition => Ok(Thing::Condition),
             Thing::Expression => {
-                self.chain(cursor, depth, n, start, from)?;
+                self.chain(cursor, depth, binding, start, from)?;
                 Ok(Thing::Expression)
             }
         }
@@ -204,22 +209,19 @@ impl Code {
         &mut self,
         cursor: &mut Cursor,
         depth: usize,
-        n: u8,
+        binding: Binding,
         start: usize,
         from: usize,
     ) -> Result<(), ReadRefusal>
-        requires ready { Ready 0 cursor.old self.old }
-        requires known { n ≤ 3 }
-        requires some { 0 < n }
+        requires ready { Spare 0 cursor.old self.old }
         requires within { from ≤ vec_len self.old.nodes }
-        ensures { Follows (λ g. chained depth n start g g) flat from cursor.old cursor.new self.old self.new result }
+        ensures { Follows (λ g. chained depth (rank (Some binding)) start g g) flat from cursor.old cursor.new self.old self.new result }
     {
-        while cursor.binding() == n {
+        while let Some(operator) = cursor.operator_at(binding) {
             let at = cursor.here.at;
-            let operator = cursor.operator();
             cursor.take(depth)?;
             self.insert(from, Node::Begin { at });
-            self.level(cursor, depth, false, n - 1)?;
+            self.level(cursor, depth, false, binding.tighter())?;
             self.push(Node::Binary {
                 at,
                 start,
@@ -237,7 +239,7 @@ impl Code {
         depth: usize,
         must: bool,
     ) -> Result<Thing, ReadRefusal>
-        requires { Ready 0 cursor.old self.old }
+        requires { Spare 0 cursor.old self.old }
         ensures { Gives 0 (λ g. negation must (suc g) depth) (flat_found must) (found_is must) cursor.old cursor.new self.old self.new result }
     {
         let at = cursor.here.at;
@@ -249,7 +251,7 @@ impl Code {
             return Ok(Thing::Condition);
         }
         let from = self.nodes.len();
-        match self.level(cursor, depth, true, 3)? {
+        match self.level(cursor, depth, true, Some(Binding::Dot))? {
             Thing::Condition => Ok(Thing::Condition),
             Thing::Expression => self.compared(cursor, depth, must, from),
         }
@@ -264,7 +266,7 @@ impl Code {
         must: bool,
         from: usize,
     ) -> Result<Thing, ReadRefusal>
-        requires ready { Ready 0 cursor.old self.old }
+        requires ready { Spare 0 cursor.old self.old }
         requires within { from ≤ vec_len self.old.nodes }
         ensures { Compares must depth from cursor.old cursor.new self.old self.new result }
     {
@@ -272,7 +274,7 @@ impl Code {
         if let Some(comparison) = cursor.comparison() {
             cursor.take(depth)?;
             self.insert(from, Node::Begin { at });
-            self.level(cursor, depth, false, 3)?;
+            self.level(cursor, depth, false, Some(Binding::Dot))?;
             self.push(Node::Compare { comparison });
             return Ok(Thing::Condition);
         }
@@ -283,27 +285,26 @@ impl Code {
         }
     }
 
-    // A chain of conditions: 1 for `&&`, 2 for `||` of these, and 0 for a negation or a comparison.
+    // A chain of conditions, or a negation or a comparison.
     #[cycle(terms)]
     fn conditions(
         &mut self,
         cursor: &mut Cursor,
         depth: usize,
         must: bool,
-        n: u8,
+        join: Option<Join>,
     ) -> Result<Thing, ReadRefusal>
-        requires ready { Ready 0 cursor.old self.old }
-        requires known { n ≤ 2 }
-        ensures { Gives 0 (λ g. conditions must n g depth) (flat_found must) (found_is must) cursor.old cursor.new self.old self.new result }
+        requires { Spare 0 cursor.old self.old }
+        ensures { Gives 0 (λ g. conditions must (join_rank join) g depth) (flat_found must) (found_is must) cursor.old cursor.new self.old self.new result }
     {
-        if n == 0 {
+        let Some(join) = join else {
             return self.negation(cursor, depth, must);
-        }
+        };
         let from = self.nodes.len();
-        match self.conditions(cursor, depth, must, n - 1)? {
+        match self.conditions(cursor, depth, must, join.tighter())? {
             Thing::Expression => Ok(Thing::Expression),
             Thing::Condition => {
-                self.joined(cursor, depth, n, from)?;
+                self.joined(cursor, depth, join, from)?;
                 Ok(Thing::Condition)
             }
         }
@@ -315,23 +316,21 @@ impl Code {
         &mut self,
         cursor: &mut Cursor,
         depth: usize,
-        n: u8,
+        join: Join,
         from: usize,
     ) -> Result<(), ReadRefusal>
-        requires ready { Ready 0 cursor.old self.old }
-        requires known { n ≤ 2 }
-        requires some { 0 < n }
+        requires ready { Spare 0 cursor.old self.old }
         requires within { from ≤ vec_len self.old.nodes }
-        ensures { Follows (λ g. joining_on depth n g g) flat_cond from cursor.old cursor.new self.old self.new result }
+        ensures { Follows (λ g. joining_on depth (join_rank (Some join)) g g) flat_cond from cursor.old cursor.new self.old self.new result }
     {
-        while cursor.joining() == n {
+        while cursor.joins(join) {
             let at = cursor.here.at;
             cursor.take(depth)?;
             self.insert(from, Node::Begin { at });
             let middle = self.nodes.len();
-            self.conditions(cursor, depth, true, n - 1)?;
+            self.conditions(cursor, depth, true, join.tighter())?;
             let skip = self.nodes.len() - middle;
-            self.insert(middle, join(n, skip));
+            self.insert(middle, join.node(skip));
         }
         Ok(())
     }

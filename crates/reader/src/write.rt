@@ -1,20 +1,9 @@
 // Writing nodes, for which there is room.
-ghost use Rattle.std.specs.Prelude.{◌≡◌, ◌<◌, ◌≤◌, vec_len, vec_capacity};
-ghost use Rattle.reader.specs.Terms.{Wrote, Inserted, join_node};
+ghost use Rattle.std.specs.Prelude.{◌<◌, ◌≤◌, vec_len, vec_capacity};
+ghost use Rattle.reader.specs.Terms.{Wrote, Inserted};
 
 use crate::code::Code;
 use script::Node;
-
-// The node of `&&` or `||`, by how tightly it binds.
-pub(crate) fn join(n: u8, skip: usize) -> Node
-    ensures { result ≡ join_node n skip }
-{
-    if n == 1 {
-        Node::And { skip }
-    } else {
-        Node::Or { skip }
-    }
-}
 
 impl Code {
     pub(crate) fn push(&mut self, node: Node)
@@ -24,15 +13,12 @@ impl Code {
         self.nodes.push_reserved(node);
     }
 
-    // Writes a node before the node `i`.
+    // Writes a node before the node `i`: a place in code that grows is a number, since a slice from it would borrow the code.
     pub(crate) fn insert(&mut self, i: usize, node: Node)
         requires within { i ≤ vec_len self.old.nodes }
         requires room { vec_len self.old.nodes < vec_capacity self.old.nodes }
         ensures { Inserted i node self.old self.new }
     {
-        match self.nodes.insert(i, node) {
-            Ok(()) => {}
-            Err(_) => unreachable(),
-        }
+        self.nodes.insert(i, node).unwrap();
     }
 }

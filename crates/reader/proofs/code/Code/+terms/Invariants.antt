@@ -1,6 +1,7 @@
-use Rattle.std.proofs.Common.{suc, ◌+◌, ◌*◌, length}
+use Rattle.std.proofs.Common.{suc, Some, ◌+◌, ◌*◌, length}
 use Rattle.script.specs.Flat.{flat, flat_cond}
 use Rattle.grammar.specs.Parse.{expression}
+use Rattle.reader.specs.Binding.{rank, join_rank}
 use Rattle.reader.specs.Cursor.{left}
 use Rattle.reader.specs.Terms.{chained, joining_on}
 use Rattle.reader.proofs.Chains.{Chained}
@@ -20,7 +21,7 @@ abbrev pub decreases-compared : goal.decreases-compared
 decreases-compared l = 12 * length (left l.cursor.now)
 
 abbrev pub decreases-conditions : goal.decreases-conditions
-decreases-conditions l = 12 * length (left l.cursor.now) + l.n + 6
+decreases-conditions l = 12 * length (left l.cursor.now) + join_rank l.join + 6
 
 abbrev pub decreases-inside : goal.decreases-inside
 decreases-inside l = 12 * length (left l.cursor.now) + 9
@@ -29,7 +30,7 @@ abbrev pub decreases-joined : goal.decreases-joined
 decreases-joined l = 12 * length (left l.cursor.now)
 
 abbrev pub decreases-level : goal.decreases-level
-decreases-level l = 12 * length (left l.cursor.now) + l.n + 1
+decreases-level l = 12 * length (left l.cursor.now) + rank l.binding + 1
 
 abbrev pub decreases-named : goal.decreases-named
 decreases-named l = 12 * length (left l.cursor.now)
@@ -46,14 +47,14 @@ invariant-actuals-loop-cursor l = Listed (suc l.depth) (λ g. expression g (suc 
 abbrev pub decreases-actuals-loop-cursor : goal.decreases-actuals-loop-cursor
 decreases-actuals-loop-cursor l = length (left l.cursor)
 
-abbrev pub invariant-chain-loop-at : goal.invariant-chain-loop-at
-invariant-chain-loop-at l = Chained (chained l.depth l.n l.start) flat l.from l.initial.cursor l.cursor l.initial.self l.self
+abbrev pub invariant-chain-loop-operator : goal.invariant-chain-loop-operator
+invariant-chain-loop-operator l = Chained (chained l.depth (rank (Some l.binding)) l.start) flat l.from l.initial.cursor l.cursor l.initial.self l.self
 
-abbrev pub decreases-chain-loop-at : goal.decreases-chain-loop-at
-decreases-chain-loop-at l = length (left l.cursor)
+abbrev pub decreases-chain-loop-operator : goal.decreases-chain-loop-operator
+decreases-chain-loop-operator l = length (left l.cursor)
 
-abbrev pub invariant-joined-loop-at : goal.invariant-joined-loop-at
-invariant-joined-loop-at l = Chained (joining_on l.depth l.n) flat_cond l.from l.initial.cursor l.cursor l.initial.self l.self
+abbrev pub invariant-joined-loop-join : goal.invariant-joined-loop-join
+invariant-joined-loop-join l = Chained (joining_on l.depth (join_rank (Some l.join))) flat_cond l.from l.initial.cursor l.cursor l.initial.self l.self
 
-abbrev pub decreases-joined-loop-at : goal.decreases-joined-loop-at
-decreases-joined-loop-at l = length (left l.cursor)
+abbrev pub decreases-joined-loop-join : goal.decreases-joined-loop-join
+decreases-joined-loop-join l = length (left l.cursor)

@@ -1,5 +1,5 @@
 use Rattle.std.proofs.Common.{sym, ◌∙◌, arith}
-use Rattle.std.proofs.lemmas.Result.{err_from_is_err_and}
+use Rattle.reader.proofs.Exits.{exits}
 use Rattle.grammar.specs.Parse.{declarator}
 use Rattle.reader.proofs.Says.{at_start, takes, leaves, stops}
 use Rattle.reader.proofs.Heads.{headed}
@@ -7,8 +7,7 @@ use Rattle.reader.proofs.cursor.Cursor.declarator.Goals as goal
 
 pub returns-in_err-take : goal.returns-in_err-take
 returns-in_err-take c =
-    let p = err_from_is_err_and c.from_residual.result c.from_residual.ensures.1 in
-    rw (p.1, p.2)
+    rw (exits c.from_residual.result c.from_residual.ensures.1)
     (stops _ _ _ _ (at_start (λ g. declarator c.args.depth) c.args.self.now) (sym c.at_keyword.ensures.value ∙ c.if-at_keyword.true) c.in_err-take.ensures)
 
 pub returns-then-at_keyword : goal.returns-then-at_keyword

@@ -1,9 +1,10 @@
 use Rattle.std.proofs.Common.{suc, length, sym, ◌∙◌, arith}
-use Rattle.std.proofs.lemmas.Result.{err_from_is_err_and}
+use Rattle.reader.proofs.Exits.{exits}
 use Rattle.grammar.specs.Combine.{out_done}
 use Rattle.grammar.specs.Parse.{typed}
 use Rattle.reader.specs.Cursor.{left}
-use Rattle.reader.proofs.Says.{at_start, takes, leaves, stops, refuses, passed_one}
+use Rattle.reader.proofs.Steps.{shorter}
+use Rattle.reader.proofs.Says.{at_start, takes, leaves, stops, refuses}
 use Rattle.reader.proofs.cursor.Cursor.typed.Goals as goal
 
 pub returns-in_default : goal.returns-in_default
@@ -12,8 +13,7 @@ returns-in_default c =
 
 pub returns-in_err-take : goal.returns-in_err-take
 returns-in_err-take c =
-    let p = err_from_is_err_and c.from_residual.result c.from_residual.ensures.1 in
-    rw (p.1, p.2)
+    rw (exits c.from_residual.result c.from_residual.ensures.1)
     (stops _ _ _ _ (at_start (λ g. typed c.args.depth c.args.mutable) c.args.self.now) c.in-Some.ensures.0 c.in_err-take.ensures)
 
 pub returns-in_default-name : goal.returns-in_default-name
@@ -23,9 +23,8 @@ returns-in_default-name c =
 
 pub returns-in_err-take-2 : goal.returns-in_err-take-2
 returns-in_err-take-2 c =
-    let p = err_from_is_err_and c.from_residual-in_err-take-2.result c.from_residual-in_err-take-2.ensures.1 in
     let l = takes _ _ _ _ (at_start (λ g. typed c.args.depth c.args.mutable) c.args.self.now) c.in-Some.ensures.0 c.in_ok-take.ensures in
-    rw (p.1, p.2) (stops _ _ _ _ l c.in-Some-name.ensures.0 c.in_err-take-2.ensures)
+    rw (exits c.from_residual-in_err-take-2.result c.from_residual-in_err-take-2.ensures.1) (stops _ _ _ _ l c.in-Some-name.ensures.0 c.in_err-take-2.ensures)
 
 pub returns : goal.returns
 returns c =
@@ -33,12 +32,11 @@ returns c =
     let b = c.in_ok-take-2.ensures in
     let l = takes _ _ _ _ (at_start (λ g. typed c.args.depth c.args.mutable) c.args.self.now) c.in-Some.ensures.0 a in
     let m = takes _ _ _ _ l c.in-Some-name.ensures.0 b in
-    let n = passed_one a in
-    let o = passed_one b in
+    let n = shorter a in
+    let o = shorter b in
     record {
       is = m.is (suc (length (left c.args.self.now))) (omega arith)
           ∙ (λ i. out_done (record { mutable = c.args.mutable; ty = sym c.in-Some.ensures.1 i; name = sym c.in-Some-name.ensures.1 i }) (left c.take-2.new.self));
       on = omega (arith, a.taken, b.taken);
-      few = omega (arith, b.taken, b.counted);
       fall = omega arith;
     }

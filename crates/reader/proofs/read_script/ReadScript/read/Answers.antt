@@ -2,7 +2,7 @@ use Rattle.std.proofs.Common.{◌≡◌, ◌+◌, ◌≤◌, [], ◌++◌, lengt
 use Rattle.std.proofs.lemmas.Bool.{cond-true}
 use Rattle.script.specs.Flat.{flat_program, formals_of, functions_of}
 use Rattle.reader.specs.Script.{refused}
-use Rattle.reader.proofs.Wholes.{empty_reads, script_from, roomy, outcome_reads, outcome_refuses, means, first_refusal_lem}
+use Rattle.reader.proofs.Wholes.{empty_reads, script_from, outcome_reads, outcome_refuses, means, first_refusal_lem}
 use Rattle.reader.proofs.read_script.ReadScript.read.Goals as goal
 use Rattle.reader.proofs.read_script.ReadScript.read.Goals.{After-extend_from_slice}
 
@@ -18,10 +18,6 @@ invariant_of-self c =
       functions_few = omega arith;
       formals_few = omega arith;
     }
-
-pub program-requires : goal.program-requires
-program-requires c =
-    roomy c.args.source.now c.new-cursor.result c.new-cursor.ensures c.clear-2.new.self c.clear-2.ensures.nodes_len c.clear-2.ensures.functions_len c.clear-2.ensures.formals_len
 
 pub invariant_of-self-in-Err : goal.invariant_of-self-in-Err
 invariant_of-self-in-Err c =
