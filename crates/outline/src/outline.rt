@@ -1,125 +1,113 @@
 // The outline of a script, from its flat code. A line is written where a node's operation stands, and has the offset at which the node began.
-use crate::refusal::refusal_line;
+use crate::refusal::refusal_of;
 use reader::ReadScript;
-use script::{Declarator, Function, Name, Node, Type};
-use std::alloc::{AllocError, Global};
+use script::{Declarator, Function, Name, Node};
+use std::alloc::Global;
+use std::io;
+use std::io::Write;
 
-fn type_text(ty: Type) -> &'static [u8] {
-    match ty {
-        Type::Int => b"int ",
-        Type::Ref => b"Ref ",
-        Type::Q => b"Q ",
-    }
-}
-
-fn spelling(source: &[u8], name: Name) -> &[u8] {
-    let from = name.at;
-    if from > source.len() || name.len > source.len() - from {
-        return b"";
-    }
-    let to = from + name.len;
-    &source[from..to]
-}
-
+// The text is bytes and no `String`: names stand in it as the source spells them.
 #[derive(Drop)]
-struct Outline {
+struct Outline<'a> {
+    script: &'a ReadScript,
     text: Vec<u8>,
     begun: Vec<usize>,
     depth: usize,
 }
 
-impl Outline {
-    fn put(&mut self, bytes: &[u8]) -> Result<(), AllocError> {
-        self.text.extend_from_slice(bytes)
-    }
-
-    fn name(&mut self, source: &[u8], name: Name) -> Result<(), AllocError> {
-        self.put(spelling(source, name))
-    }
-
-    fn declarator(&mut self, source: &[u8], declarator: Declarator) -> Result<(), AllocError> {
-        if declarator.mutable {
-            self.put(b"mutable ")?;
-        }
-        self.put(type_text(declarator.ty))?;
-        self.name(source, declarator.name)
-    }
-
-    // The front of a line: as deep as its scope, and its offset.
-    fn line(&mut self, heap: Global, at: usize) -> Result<(), AllocError> {
+impl Outline<'_> {
+    fn indent(&mut self) -> io::Result<()> {
         for _ in 0..self.depth {
-            self.put(b"    ")?;
+            self.text.write_all(b"    ")?;
         }
-        let offset = format!(in heap; "{at} ")?;
-        self.put(offset.as_bytes())
+        Ok(())
     }
 
-    // A line for the node that began last.
-    fn begun_line(&mut self, heap: Global, words: &[u8]) -> Result<(), AllocError> {
+    // The front of a line with an offset.
+    fn line(&mut self, at: usize, words: &str) -> io::Result<()> {
+        self.indent()?;
+        write!(self.text, "{at} {words}")
+    }
+
+    // The same for the node that began last.
+    fn begun_line(&mut self, words: &str) -> io::Result<()> {
         let at = self.begun.pop().unwrap_or(0);
-        self.line(heap, at)?;
-        self.put(words)
+        self.line(at, words)
     }
 
-    fn open(&mut self) -> Result<(), AllocError> {
+    fn name(&mut self, name: Name) -> io::Result<()> {
+        self.text.write_all(name.spelling(self.script.source()))
+    }
+
+    fn declarator(&mut self, declarator: Declarator) -> io::Result<()> {
+        let Declarator { mutable, ty, name } = declarator;
+        if mutable {
+            self.text.write_all(b"mutable ")?;
+        }
+        write!(self.text, "{ty} ")?;
+        self.name(name)
+    }
+
+    fn end_line(&mut self) -> io::Result<()> {
+        self.text.write_all(b"\n")
+    }
+
+    // A line that stands before a deeper scope ends.
+    fn open(&mut self) -> io::Result<()> {
         self.depth = self.depth.saturating_add(1);
-        self.put(b"\n")
+        self.end_line()
     }
 
     fn close(&mut self) {
         self.depth = self.depth.saturating_sub(1);
     }
 
-    fn statement(&mut self, heap: Global, source: &[u8], node: Node) -> Result<(), AllocError> {
-        match node {
-            Node::Declare { declarator } => {
-                self.begun_line(heap, b"declare ")?;
-                self.declarator(source, declarator)?;
-            }
-            Node::Assign { name } => {
-                self.begun_line(heap, b"assign ")?;
-                self.name(source, name)?;
-            }
-            Node::CallStatement { name, .. } => {
-                self.begun_line(heap, b"call ")?;
-                self.name(source, name)?;
-            }
-            Node::Free => self.begun_line(heap, b"free")?,
-            Node::Print => self.begun_line(heap, b"print")?,
-            _ => self.begun_line(heap, b"return")?,
-        }
-        self.put(b"\n")
+    fn statement(&mut self, words: &str) -> io::Result<()> {
+        self.begun_line(words)?;
+        self.end_line()
     }
 
-    fn scope(&mut self, heap: Global, node: Node) -> Result<(), AllocError> {
-        match node {
-            Node::Then { .. } => self.begun_line(heap, b"if")?,
-            Node::Loop { .. } => self.begun_line(heap, b"while")?,
-            Node::BeginBlock { at } => {
-                self.line(heap, at)?;
-                self.put(b"block")?;
-            }
-            _ => {
-                for _ in 0..self.depth {
-                    self.put(b"    ")?;
-                }
-                self.put(b"else")?;
-            }
-        }
+    fn statement_on(&mut self, words: &str, name: Name) -> io::Result<()> {
+        self.begun_line(words)?;
+        self.name(name)?;
+        self.end_line()
+    }
+
+    fn declaration(&mut self, declarator: Declarator) -> io::Result<()> {
+        self.begun_line("declare ")?;
+        self.declarator(declarator)?;
+        self.end_line()
+    }
+
+    fn begun_scope(&mut self, words: &str) -> io::Result<()> {
+        self.begun_line(words)?;
         self.open()
     }
 
-    fn node(&mut self, heap: Global, source: &[u8], node: Node) -> Result<(), AllocError> {
+    fn block(&mut self, at: usize) -> io::Result<()> {
+        self.line(at, "block")?;
+        self.open()
+    }
+
+    fn otherwise(&mut self) -> io::Result<()> {
+        self.indent()?;
+        self.text.write_all(b"else")?;
+        self.open()
+    }
+
+    fn node(&mut self, node: Node) -> io::Result<()> {
         match node {
             Node::Begin { at } => self.begun.push(at)?,
-            Node::Declare { .. }
-            | Node::Assign { .. }
-            | Node::CallStatement { .. }
-            | Node::Free
-            | Node::Print
-            | Node::Return => self.statement(heap, source, node)?,
-            Node::Then { .. } | Node::Else { .. } | Node::Loop { .. } | Node::BeginBlock { .. } =>
-                self.scope(heap, node)?,
+            Node::Declare { declarator } => self.declaration(declarator)?,
+            Node::Assign { name } => self.statement_on("assign ", name)?,
+            Node::CallStatement { name, .. } => self.statement_on("call ", name)?,
+            Node::Free => self.statement("free")?,
+            Node::Print => self.statement("print")?,
+            Node::Return => self.statement("return")?,
+            Node::Then { .. } => self.begun_scope("if")?,
+            Node::Loop { .. } => self.begun_scope("while")?,
+            Node::BeginBlock { at } => self.block(at)?,
+            Node::Else { .. } => self.otherwise()?,
             Node::EndScope => self.close(),
             Node::Nil { .. }
             | Node::Constant { .. }
@@ -143,71 +131,55 @@ impl Outline {
     }
 
     // A function's declaration with its formals, at the offset of its name.
-    fn head(
-        &mut self,
-        heap: Global,
-        script: &ReadScript,
-        function: Function,
-    ) -> Result<(), AllocError> {
-        self.line(heap, function.head.name.at)?;
-        self.declarator(script.source(), function.head)?;
-        self.put(b"(")?;
-        let mut first = true;
-        for formal in script
-            .formals()
-            .iter()
-            .skip(function.first)
-            .take(function.formals)
-        {
-            if !first {
-                self.put(b", ")?;
+    fn head(&mut self, function: Function) -> io::Result<()> {
+        self.line(function.head.name.at, "")?;
+        self.declarator(function.head)?;
+        self.text.write_all(b"(")?;
+        let script = self.script;
+        for (i, formal) in function.formals_in(script.formals()).iter().enumerate() {
+            if i > 0 {
+                self.text.write_all(b", ")?;
             }
-            first = false;
-            self.declarator(script.source(), *formal)?;
+            self.declarator(*formal)?;
         }
-        self.put(b")")?;
+        self.text.write_all(b")")?;
         self.open()
     }
 
-    fn function(
-        &mut self,
-        heap: Global,
-        script: &ReadScript,
-        function: Function,
-    ) -> Result<(), AllocError> {
-        self.head(heap, script, function)?;
-        for node in script.nodes().iter().skip(function.entry) {
-            if let Node::Leave { .. } = *node {
-                break;
-            }
-            self.node(heap, script.source(), *node)?;
+    fn function(&mut self, function: Function) -> io::Result<()> {
+        self.head(function)?;
+        let script = self.script;
+        for node in script
+            .nodes()
+            .iter()
+            .skip(function.entry)
+            .take_while(|node| !matches!(node, Node::Leave { .. }))
+        {
+            self.node(*node)?;
         }
         self.close();
         Ok(())
     }
 }
 
-// The outline of a source, or the line that refuses it.
-pub fn outline_of(heap: Global, source: &[u8]) -> Result<Vec<u8>, AllocError> {
+fn outline_of_script(heap: Global, script: &ReadScript) -> io::Result<Vec<u8>> {
     let mut outline = Outline {
+        script,
         text: Vec::new(heap),
         begun: Vec::new(heap),
         depth: 0,
     };
+    for function in script.functions() {
+        outline.function(*function)?;
+    }
+    Ok(outline.text)
+}
+
+// The outline of a source, or the line that refuses it.
+pub fn outline_of(heap: Global, source: &[u8]) -> io::Result<Vec<u8>> {
     let mut script = ReadScript::new(heap)?;
     match script.read(source) {
-        Err(refusal) => outline.put(refusal_line(heap, source, refusal)?.as_bytes())?,
-        Ok(()) => {
-            for function in script.functions() {
-                outline.function(heap, &script, *function)?;
-            }
-        }
+        Ok(()) => outline_of_script(heap, &script),
+        Err(refusal) => Ok(refusal_of(heap, source, refusal)?.into_bytes()),
     }
-    let Outline {
-        text,
-        begun,
-        depth: _,
-    } = outline;
-    drop(begun);
-    Ok(text)
 }

@@ -1,6 +1,6 @@
-// Why a script is not read, in words.
-use position::position_of;
+// Why a script is not read.
 use reader::{ReadRefusal, Reason};
+use refusal_line::refusal_line;
 use std::alloc::{AllocError, Global};
 
 fn words(reason: Reason) -> &'static str {
@@ -14,17 +14,13 @@ fn words(reason: Reason) -> &'static str {
     }
 }
 
-// LINE:COLUMN: refused with NUMBER at offset OFFSET: WORDS
-pub fn refusal_line(
-    heap: Global,
-    source: &[u8],
-    refusal: ReadRefusal,
-) -> Result<String, AllocError> {
-    let position = position_of(source, refusal.at);
-    let line = position.line;
-    let column = position.column;
-    let number = refusal.number();
-    let at = refusal.at;
-    let why = words(refusal.reason);
-    format!(in heap; "{line}:{column}: refused with {number} at offset {at}: {why}\n")
+// The line that refuses the source.
+pub fn refusal_of(heap: Global, source: &[u8], refusal: ReadRefusal) -> Result<String, AllocError> {
+    refusal_line(
+        heap,
+        source,
+        refusal.number(),
+        refusal.at,
+        words(refusal.reason),
+    )
 }

@@ -1,9 +1,11 @@
 // Each source of a table is read, and what comes of it is compared as text: the words of its flat code in order, or the refusal.
-use reader::ReadScript;
+use reader::{ReadRefusal, ReadScript};
 use script::{Comparison, Name, Node, Operator};
 use std::alloc::{AllocError, Global};
 use std::test::Fail;
+use text_check::check_text;
 
+// The words of operators and comparisons here are the tests' own, beside what they expect.
 fn operator_text(operator: Operator) -> &'static str {
     match operator {
         Operator::Multiply => "*",
@@ -25,15 +27,11 @@ fn comparison_text(comparison: Comparison) -> &'static str {
 }
 
 fn spelling(source: &[u8], name: Name) -> &str {
-    let from = name.at;
-    if from > source.len() || name.len > source.len() - from {
+    let bytes = name.spelling(source);
+    if bytes.len() < name.len {
         return "?";
     }
-    let to = from + name.len;
-    match std::str::from_utf8(&source[from..to]) {
-        Ok(text) => text,
-        Err(_) => "?",
-    }
+    std::str::from_utf8(bytes).unwrap_or("?")
 }
 
 fn statement_text(node: Node) -> &'static str {
@@ -85,23 +83,18 @@ fn code_text(heap: Global, script: &ReadScript) -> Result<String, AllocError> {
     Ok(text)
 }
 
+fn refusal_text(heap: Global, refusal: ReadRefusal) -> Result<String, AllocError> {
+    let number = refusal.number();
+    let at = refusal.at;
+    format!(in heap; "{number} at {at}")
+}
+
 fn read_text(heap: Global, source: &[u8]) -> Result<String, AllocError> {
     let mut script = ReadScript::new(heap)?;
     match script.read(source) {
         Ok(()) => code_text(heap, &script),
-        Err(refusal) => {
-            let number = refusal.number();
-            let at = refusal.at;
-            format!(in heap; "{number} at {at}")
-        }
+        Err(refusal) => refusal_text(heap, refusal),
     }
-}
-
-fn check_text(text: &str, expected: &str, what: &str) -> Result<(), Fail> {
-    if text == expected {
-        return Ok(());
-    }
-    Err(Fail::new(format_args!("{what}: {text:?}, not {expected:?}")))
 }
 
 fn check_read(heap: Global, source: &[u8], words: &str, what: &str) -> Result<(), Fail> {
@@ -109,22 +102,19 @@ fn check_read(heap: Global, source: &[u8], words: &str, what: &str) -> Result<()
     check_text(text.as_str(), words, what)
 }
 
-// Each row is a body of `int main(int a) { .. }`, so that it begins at offset 18.
-fn check_bodies(heap: Global, rows: &[(&str, &str)]) -> Result<(), Fail> {
-    for (body, words) in rows {
-        let source = format!(in heap; "int main(int a) {{ {body} }}")?;
-        let what = format!(in heap; "the body is {body:?}")?;
+// Each row is a part of a source, between the same front and back.
+fn check_rows(heap: Global, front: &str, rows: &[(&str, &str)], back: &str) -> Result<(), Fail> {
+    for (part, words) in rows {
+        let source = format!(in heap; "{front}{part}{back}")?;
+        let what = format!(in heap; "the source is {source:?}")?;
         check_read(heap, source.as_bytes(), words, &what)?;
     }
     Ok(())
 }
 
-fn check_sources(heap: Global, rows: &[(&str, &str)]) -> Result<(), Fail> {
-    for (source, words) in rows {
-        let what = format!(in heap; "the source is {source:?}")?;
-        check_read(heap, source.as_bytes(), words, &what)?;
-    }
-    Ok(())
+// Each row is a body, so that it begins at offset 18.
+fn check_bodies(heap: Global, rows: &[(&str, &str)]) -> Result<(), Fail> {
+    check_rows(heap, "int main(int a) { ", rows, " }")
 }
 
 const EXPRESSIONS: [(&str, &str); 12] = [
@@ -262,11 +252,11 @@ const SOURCES: [(&str, &str); 22] = [
 fn refusals(rt: HostRuntime) -> Result<(), Fail> {
     let heap = rt.alloc();
     check_bodies(heap, &WRONG)?;
-    check_sources(heap, &SOURCES)?;
+    check_rows(heap, "", &SOURCES, "")?;
     check_read(heap, b"int f() { \xff", "2 at 10", "a byte above 127")
 }
 
-// A body: what it begins with, so many times the front, the middle, and so many times the back.
+// A body: what it begins with, so many times the front, the middle, and so many times the back. No struct: each row of the tables would be longer.
 fn nested(
     heap: Global,
     begin: &str,
@@ -275,29 +265,16 @@ fn nested(
     middle: &str,
     back: &str,
 ) -> Result<String, AllocError> {
-    let mut text = String::from_str(heap, "int main(int a) { ")?;
-    text.push_str(begin)?;
-    for _ in 0..count {
-        text.push_str(front)?;
-    }
-    text.push_str(middle)?;
-    for _ in 0..count {
-        text.push_str(back)?;
-    }
-    text.push_str(" }")?;
-    Ok(text)
+    let fronts = front.repeat(heap, count)?;
+    let backs = back.repeat(heap, count)?;
+    format!(in heap; "int main(int a) {{ {begin}{fronts}{middle}{backs} }}")
 }
 
 fn check_verdict(heap: Global, source: &[u8], verdict: &str, what: &str) -> Result<(), Fail> {
     let mut script = ReadScript::new(heap)?;
     match script.read(source) {
         Ok(()) => check_text("read", verdict, what),
-        Err(refusal) => {
-            let number = refusal.number();
-            let at = refusal.at;
-            let text = format!(in heap; "{number} at {at}")?;
-            check_text(text.as_str(), verdict, what)
-        }
+        Err(refusal) => check_text(&refusal_text(heap, refusal)?, verdict, what),
     }
 }
 

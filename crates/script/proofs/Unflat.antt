@@ -174,9 +174,6 @@ left r es =
     let long : length (pushed r []) ≡ count r = pushed_long r [] ∙ omega arith in
     ap (drop (count r)) (pushed_front r [] es) ∙ drop_at (pushed r []) es (count r) long
 
-two : (a b c : List Node) → (a ++ b) ++ c ≡ a ++ (b ++ c)
-two a b c = append_assoc a b c
-
 three : (a b c d : List Node) → ((a ++ b) ++ c) ++ d ≡ a ++ (b ++ (c ++ d))
 three a b c d = simp append_assoc
 
@@ -189,15 +186,15 @@ mutual
   expr_done (constant at n) ns es ms fs h xs p = refl
   expr_done (variable x) ns es ms fs h xs p = refl
   expr_done (negate at e) ns es ms fs h xs p =
-      ap (λ l. tree l es (begun at ∷ ms) fs h xs p) (two (flat e) _ ns) ∙ expr_done e (node.Negate at ∷ ns) es (begun at ∷ ms) fs h xs p
+      ap (λ l. tree l es (begun at ∷ ms) fs h xs p) (append_assoc (flat e) _ ns) ∙ expr_done e (node.Negate at ∷ ns) es (begun at ∷ ms) fs h xs p
   expr_done (cast at ty e) ns es ms fs h xs p =
-      ap (λ l. tree l es (begun at ∷ ms) fs h xs p) (two (flat e) _ ns) ∙ expr_done e (node.Cast at ty ∷ ns) es (begun at ∷ ms) fs h xs p
+      ap (λ l. tree l es (begun at ∷ ms) fs h xs p) (append_assoc (flat e) _ ns) ∙ expr_done e (node.Cast at ty ∷ ns) es (begun at ∷ ms) fs h xs p
   expr_done (binary at from o l r) ns es ms fs h xs p =
       ap (λ l. tree l es (begun at ∷ ms) fs h xs p) (three (flat l) (flat r) _ ns)
       ∙ expr_done l (flat r ++ (node.Binary at from o ∷ ns)) es (begun at ∷ ms) fs h xs p
       ∙ expr_done r (node.Binary at from o ∷ ns) (l ∷ es) (begun at ∷ ms) fs h xs p
   expr_done (call x r) ns es ms fs h xs p =
-      ap (λ l. tree l es (begun x.at ∷ ms) fs h xs p) (two (flats r) _ ns)
+      ap (λ l. tree l es (begun x.at ∷ ms) fs h xs p) (append_assoc (flats r) _ ns)
       ∙ exprs_done r (node.Call x (count r) ∷ ns) es (begun x.at ∷ ms) fs h xs p
       ∙ ap (λ l. tree ns (call x l ∷ drop (count r) (pushed r es)) ms fs h xs p) (taken r es)
       ∙ ap (λ l. tree ns (call x r ∷ l) ms fs h xs p) (left r es)
@@ -205,7 +202,7 @@ mutual
   exprs_done : (r : Exprs) (ns : List Node) (es : List Expr) (ms : List Mark) (fs : List Frame) (h : Declarator) (xs : List Declarator) (p : Program) → tree (flats r ++ ns) es ms fs h xs p ≡ tree ns (pushed r es) ms fs h xs p
   exprs_done none ns es ms fs h xs p = refl
   exprs_done (more e r) ns es ms fs h xs p =
-      ap (λ l. tree l es ms fs h xs p) (two (flat e) (flats r) ns) ∙ expr_done e (flats r ++ ns) es ms fs h xs p ∙ exprs_done r ns (e ∷ es) ms fs h xs p
+      ap (λ l. tree l es ms fs h xs p) (append_assoc (flat e) (flats r) ns) ∙ expr_done e (flats r ++ ns) es ms fs h xs p ∙ exprs_done r ns (e ∷ es) ms fs h xs p
 
 cond_done : (c : Cond) (ns : List Node) (es : List Expr) (ms : List Mark) (fs : List Frame) (h : Declarator) (xs : List Declarator) (p : Program) → tree (flat_cond c ++ ns) es ms fs h xs p ≡ tree ns es (settle c ms) fs h xs p
 unfolding tree
@@ -214,23 +211,23 @@ cond_done (compare at o l r) ns es ms fs h xs p =
     ∙ expr_done l (flat r ++ (node.Compare o ∷ ns)) es (begun at ∷ ms) fs h xs p
     ∙ expr_done r (node.Compare o ∷ ns) (l ∷ es) (begun at ∷ ms) fs h xs p
 cond_done (negated at c) ns es ms fs h xs p =
-    ap (λ l. tree l es (begun at ∷ ms) fs h xs p) (two (flat_cond c) _ ns) ∙ cond_done c (node.Not ∷ ns) es (begun at ∷ ms) fs h xs p
+    ap (λ l. tree l es (begun at ∷ ms) fs h xs p) (append_assoc (flat_cond c) _ ns) ∙ cond_done c (node.Not ∷ ns) es (begun at ∷ ms) fs h xs p
 cond_done (both at c d) ns es ms fs h xs p =
-    ap (λ l. tree l es (begun at ∷ ms) fs h xs p) (two (flat_cond c) _ ns)
+    ap (λ l. tree l es (begun at ∷ ms) fs h xs p) (append_assoc (flat_cond c) _ ns)
     ∙ cond_done c (node.And (length (flat_cond d)) ∷ (flat_cond d ++ ns)) es (begun at ∷ ms) fs h xs p
     ∙ cond_done d ns es (and_left at c ∷ ms) fs h xs p
 cond_done (either at c d) ns es ms fs h xs p =
-    ap (λ l. tree l es (begun at ∷ ms) fs h xs p) (two (flat_cond c) _ ns)
+    ap (λ l. tree l es (begun at ∷ ms) fs h xs p) (append_assoc (flat_cond c) _ ns)
     ∙ cond_done c (node.Or (length (flat_cond d)) ∷ (flat_cond d ++ ns)) es (begun at ∷ ms) fs h xs p
     ∙ cond_done d ns es (or_left at c ∷ ms) fs h xs p
 
 -- a statement of one expression
 simple : (e : Expr) (n : Node) (ns : List Node) (at : ℕ) (es : List Expr) (ms : List Mark) (fs : List Frame) (h : Declarator) (xs : List Declarator) (p : Program) → tree ((flat e ++ (n ∷ [])) ++ ns) es (begun at ∷ ms) fs h xs p ≡ tree (n ∷ ns) (e ∷ es) (begun at ∷ ms) fs h xs p
-simple e n ns at es ms fs h xs p = ap (λ l. tree l es (begun at ∷ ms) fs h xs p) (two (flat e) _ ns) ∙ expr_done e (n ∷ ns) es (begun at ∷ ms) fs h xs p
+simple e n ns at es ms fs h xs p = ap (λ l. tree l es (begun at ∷ ms) fs h xs p) (append_assoc (flat e) _ ns) ∙ expr_done e (n ∷ ns) es (begun at ∷ ms) fs h xs p
 
 -- a condition and what goes on after it
 tested_first : (c : Cond) (n : Node) (code ns : List Node) (at : ℕ) (es : List Expr) (ms : List Mark) (fs : List Frame) (h : Declarator) (xs : List Declarator) (p : Program) → tree ((flat_cond c ++ (n ∷ code)) ++ ns) es (begun at ∷ ms) fs h xs p ≡ tree (n ∷ (code ++ ns)) es (whole c ∷ begun at ∷ ms) fs h xs p
-tested_first c n code ns at es ms fs h xs p = ap (λ l. tree l es (begun at ∷ ms) fs h xs p) (two (flat_cond c) _ ns) ∙ cond_done c (n ∷ (code ++ ns)) es (begun at ∷ ms) fs h xs p
+tested_first c n code ns at es ms fs h xs p = ap (λ l. tree l es (begun at ∷ ms) fs h xs p) (append_assoc (flat_cond c) _ ns) ∙ cond_done c (n ∷ (code ++ ns)) es (begun at ∷ ms) fs h xs p
 
 -- statements, the newest first, before what stood there
 abbrev run_on : Stmts → List Stmt → List Stmt
@@ -260,19 +257,19 @@ mutual
   stmt_done (declare at d e) ns es ms o ss fs h xs p = simple e (node.Declare d) ns at es ms (frame o ss ∷ fs) h xs p
   stmt_done (assign x e) ns es ms o ss fs h xs p = simple e (node.Assign x) ns x.at es ms (frame o ss ∷ fs) h xs p
   stmt_done (calls x r) ns es ms o ss fs h xs p =
-      ap (λ l. tree l es (begun x.at ∷ ms) (frame o ss ∷ fs) h xs p) (two (flats r) _ ns)
+      ap (λ l. tree l es (begun x.at ∷ ms) (frame o ss ∷ fs) h xs p) (append_assoc (flats r) _ ns)
       ∙ exprs_done r (node.CallStatement x (count r) ∷ ns) es (begun x.at ∷ ms) (frame o ss ∷ fs) h xs p
       ∙ ap (λ l. tree ns (drop (count r) (pushed r es)) ms (frame o (calls x l ∷ ss) ∷ fs) h xs p) (taken r es)
       ∙ ap (λ l. tree ns l ms (frame o (calls x r ∷ ss) ∷ fs) h xs p) (left r es)
   stmt_done (if_then at c s) ns es ms o ss fs h xs p =
       tested_first c (node.Then (length (scoped (flat_stmt s)))) (scoped (flat_stmt s)) ns at es ms (frame o ss ∷ fs) h xs p
-      ∙ ap (λ l. tree l es ms (frame (in_then at c) [] ∷ frame o ss ∷ fs) h xs p) (two (flat_stmt s) _ ns)
+      ∙ ap (λ l. tree l es ms (frame (in_then at c) [] ∷ frame o ss ∷ fs) h xs p) (append_assoc (flat_stmt s) _ ns)
       ∙ stmt_done s (node.EndScope ∷ ns) es ms (in_then at c) [] (frame o ss ∷ fs) h xs p
   stmt_done (if_else at c s t) ns es ms o ss fs h xs p =
       tested_first c (node.Then (length (scoped (flat_stmt s)) + 1)) (scoped (flat_stmt s) ++ (node.Else (length (scoped (flat_stmt t))) ∷ scoped (flat_stmt t))) ns at es ms (frame o ss ∷ fs) h xs p
       ∙ ap (λ l. tree l es ms (frame (in_then at c) [] ∷ frame o ss ∷ fs) h xs p) (three (flat_stmt s) _ _ ns)
       ∙ stmt_done s (node.EndScope ∷ node.Else (length (scoped (flat_stmt t))) ∷ (scoped (flat_stmt t) ++ ns)) es ms (in_then at c) [] (frame o ss ∷ fs) h xs p
-      ∙ ap (λ l. tree l es ms (frame (in_else at c s) [] ∷ frame o ss ∷ fs) h xs p) (two (flat_stmt t) _ ns)
+      ∙ ap (λ l. tree l es ms (frame (in_else at c s) [] ∷ frame o ss ∷ fs) h xs p) (append_assoc (flat_stmt t) _ ns)
       ∙ stmt_done t (node.EndScope ∷ ns) es ms (in_else at c s) [] (frame o ss ∷ fs) h xs p
   stmt_done (while at c s) ns es ms o ss fs h xs p =
       tested_first c (node.Loop (length (scoped (flat_stmt s)) + 1)) (scoped (flat_stmt s) ++ (node.Back (length (flat_cond c) + length (scoped (flat_stmt s)) + 2) ∷ [])) ns at es ms (frame o ss ∷ fs) h xs p
@@ -282,14 +279,14 @@ mutual
   stmt_done (print at e) ns es ms o ss fs h xs p = simple e node.Print ns at es ms (frame o ss ∷ fs) h xs p
   stmt_done (return at e) ns es ms o ss fs h xs p = simple e node.Return ns at es ms (frame o ss ∷ fs) h xs p
   stmt_done (block at b) ns es ms o ss fs h xs p =
-      ap (λ l. tree l es ms (frame (in_block at) [] ∷ frame o ss ∷ fs) h xs p) (two (flat_stmts b) _ ns)
+      ap (λ l. tree l es ms (frame (in_block at) [] ∷ frame o ss ∷ fs) h xs p) (append_assoc (flat_stmts b) _ ns)
       ∙ stmts_done b (node.EndScope ∷ ns) es ms (in_block at) [] (frame o ss ∷ fs) h xs p
       ∙ ap (λ l. tree ns es ms (frame o (block at l ∷ ss) ∷ fs) h xs p) (in_order b)
 
   stmts_done : (b : Stmts) (ns : List Node) (es : List Expr) (ms : List Mark) (o : Opener) (ss : List Stmt) (fs : List Frame) (h : Declarator) (xs : List Declarator) (p : Program) → tree (flat_stmts b ++ ns) es ms (frame o ss ∷ fs) h xs p ≡ tree ns es ms (frame o (run_on b ss) ∷ fs) h xs p
   stmts_done end ns es ms o ss fs h xs p = refl
   stmts_done (next s b) ns es ms o ss fs h xs p =
-      ap (λ l. tree l es ms (frame o ss ∷ fs) h xs p) (two (flat_stmt s) (flat_stmts b) ns)
+      ap (λ l. tree l es ms (frame o ss ∷ fs) h xs p) (append_assoc (flat_stmt s) (flat_stmts b) ns)
       ∙ stmt_done s (flat_stmts b ++ ns) es ms o ss fs h xs p
       ∙ stmts_done b ns es ms o (s ∷ ss) fs h xs p
 

@@ -1,3 +1,4 @@
+pub mod Spelling
 pub mod Tree
 pub mod Flat
 pub mod Laws

@@ -1,4 +1,8 @@
 // What the reader writes and the checker and the run go through.
+ghost use Rattle.std.specs.Prelude.{◌≡◌, take, drop, Some};
+ghost use Rattle.script.specs.Spelling.{spelled, type_text};
+
+use std::fmt;
 
 #[derive(Clone, Copy, Debug, PartialEq, Eq)]
 pub enum Type {
@@ -7,11 +11,40 @@ pub enum Type {
     Q,
 }
 
-// A name: the bytes of the source that spell it.
+impl fmt::Display for Type {
+    ghost output = { λ ty. Some (type_text ty) };
+
+    fn fmt<W: fmt::Write>(&self, f: &mut fmt::Formatter<W>) -> fmt::Result {
+        f.write_str(match self {
+            Type::Int => "int",
+            Type::Ref => "Ref",
+            Type::Q => "Q",
+        })
+    }
+}
+
+// At most `len` items from `at` on.
+fn part<T>(items: &[T], at: usize, len: usize) -> &[T]
+    ensures { result.now ≡ take len (drop at items.now) }
+{
+    let rest = items.get(at..).unwrap_or(&[]);
+    rest.get(..len).unwrap_or(rest)
+}
+
+// A name: the bytes of the source that spell it. A range and not a slice: a script owns its source, and a record cannot borrow from itself.
 #[derive(Clone, Copy, Debug, PartialEq, Eq)]
 pub struct Name {
     pub at: usize,
     pub len: usize,
+}
+
+impl Name {
+    // The bytes of the source that spell the name, as far as the source has them.
+    pub fn spelling(self, source: &[u8]) -> &[u8]
+        ensures { result.now ≡ spelled source.now self }
+    {
+        part(source, self.at, self.len)
+    }
 }
 
 // What a function, a formal or a variable is declared as.
@@ -40,7 +73,8 @@ pub enum Comparison {
     Greater,
 }
 
-// An entry of a script's flat code. An offset stands for the node that begins there; a skip counts the entries that it passes.
+// An entry of a script's flat code, which is run in place: so a part of a tree is not boxed, and is found by a skip. An offset stands for the node
+// that begins there; a skip counts the entries that it passes.
 #[derive(Clone, Copy, Debug, PartialEq, Eq)]
 pub enum Node {
     Nil {
@@ -122,8 +156,8 @@ pub enum Node {
     },
 }
 
-// A function of a script: its declaration, its formals as a range of the script's formals, where its statements begin in the flat code, and
-// the offset of its closing brace.
+// A function of a script: its declaration, its formals as a range of the script's formals (a script cannot borrow from itself), where its
+// statements begin in the flat code, and the offset of its closing brace.
 #[derive(Clone, Copy, Debug, PartialEq, Eq)]
 pub struct Function {
     pub head: Declarator,
@@ -131,6 +165,15 @@ pub struct Function {
     pub formals: usize,
     pub entry: usize,
     pub close: usize,
+}
+
+impl Function {
+    // The function's own formals among those of its script.
+    pub fn formals_in(self, formals: &[Declarator]) -> &[Declarator]
+        ensures { result.now ≡ take self.formals (drop self.first formals.now) }
+    {
+        part(formals, self.first, self.formals)
+    }
 }
 
 #[derive(Clone, Copy, Debug, PartialEq, Eq)]

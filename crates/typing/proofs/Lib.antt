@@ -1,1 +1,3 @@
-pub mod Loops
+pub mod Found
+pub mod Order
+pub mod Fitting

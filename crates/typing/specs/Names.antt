@@ -1,11 +1,12 @@
 -- Names: what spells them, and what they mean. Assumes nothing.
-use Rattle.std.specs.Prelude.{ℕ, suc, Bool, true, false, cond, List, [], ◌∷◌, take, drop, Some, None, codes, Option}
+use Rattle.std.specs.Prelude.{ℕ, suc, Bool, true, false, cond, List, [], ◌∷◌, take, Some, None, codes, Option}
 use Rattle.std.specs.Str.{bytes_eq}
 use Rattle.script.specs.declared.types.BuiltIn.{BuiltIn}
 use Rattle.script.specs.declared.types.BuiltIn.TheVariants.{Left, Right, IsAtom, IsNil, SetLeft, SetRight}
 use Rattle.script.specs.declared.types.Name.{Name}
 use Rattle.script.specs.declared.types.Declarator.{Declarator}
 use Rattle.script.specs.declared.types.Function.{Function}
+use Rattle.script.specs.Spelling.{spelled}
 use Rattle.typing.specs.declared.types.Variable.{Variable}
 use Rattle.typing.specs.declared.types.Callee.{Callee}
 use Rattle.typing.specs.declared.types.Callee.TheVariants.{BuiltIn as built_in, Defined as defined}
@@ -15,10 +16,6 @@ pub record Ctx : Type 0 where
   pub source : List ℕ
   pub functions : List Function
   pub formals : List Declarator
-
--- the bytes that spell a name
-abbrev pub spelled : List ℕ → Name → List ℕ
-spelled src x = take x.len (drop x.at src)
 
 -- the name is spelled so
 unfoldable pub named : List ℕ → Name → List ℕ → Bool

@@ -1,259 +1,197 @@
 // Calls: what functions take and give, and what is wrong with a call.
-ghost use Rattle.std.specs.Prelude.{◌≡◌, ◌-◌, length, take, drop, slice_index_or};
-ghost use Rattle.script.specs.declared.types.«Type».TheVariants.{Int};
+ghost use Rattle.std.specs.Prelude.{◌≡◌, ◌==◌, length, map, cond, take, drop};
+ghost use Rattle.script.specs.declared.types.«Type».{«Type» as Ty};
 ghost use Rattle.typing.specs.Types.{built_in_gives, built_in_mutable, built_in_takes, takes, result_of, is_mutable};
-ghost use Rattle.typing.specs.Faults.{noted, misfits, all_fit, call_faults, call_type, main_of, main_faults, one_int, name_at, is_int};
-ghost use Rattle.typing.specs.View.{ctx_of};
+ghost use Rattle.typing.specs.Faults.{noted, one, misfits, all_fit, call_faults, call_type, main_of, main_faults, one_int, name_at};
+ghost use Rattle.typing.specs.View.{ctx_of, is_statement, actuals_of};
 
-use crate::faults::{demand, sooner, want};
-use crate::fits::{is_allowed, is_fitted};
-use crate::names::{find_function, part};
-use crate::types::{Callee, CheckRefusal, Operand, Reason, Table, Want};
-use script::{BuiltIn, Name, Type};
+use crate::fits::is_allowed;
+use crate::names::find_named;
+use crate::types::{Call, CallPlace, Callee, LeastFault, Operand, Reason, Table, Want};
+use script::{BuiltIn, Declarator, Function, Type};
 
-fn built_in_gives(b: BuiltIn) -> Type
-    ensures { result ≡ built_in_gives b }
-{
-    match b {
-        BuiltIn::Left => Type::Q,
-        BuiltIn::Right => Type::Q,
-        BuiltIn::IsAtom => Type::Int,
-        BuiltIn::IsNil => Type::Int,
-        BuiltIn::SetLeft => Type::Int,
-        BuiltIn::SetRight => Type::Int,
+// What a function takes: a built-in's types, or a definition's formals.
+trait Typed {
+    ghost type_of: { Self → Ty };
+
+    fn ty(&self) -> Type
+        ensures { result ≡ type_of self.now };
+}
+
+impl Typed for Type {
+    ghost type_of = { λ ty. ty };
+
+    fn ty(&self) -> Type {
+        *self
     }
 }
 
-fn built_in_mutable(b: BuiltIn) -> bool
-    ensures { result ≡ built_in_mutable b }
-{
-    match b {
-        BuiltIn::Left => false,
-        BuiltIn::Right => false,
-        BuiltIn::IsAtom => false,
-        BuiltIn::IsNil => false,
-        BuiltIn::SetLeft => true,
-        BuiltIn::SetRight => true,
+impl Typed for Declarator {
+    ghost type_of = { λ declarator. declarator.ty };
+
+    fn ty(&self) -> Type {
+        self.ty
     }
 }
 
-fn built_in_takes(b: BuiltIn) -> &'static [Type]
-    ensures { result.now ≡ built_in_takes b }
+// What a built-in gives and takes, and whether it is mutable.
+#[derive(Clone, Copy)]
+struct Signature {
+    gives: Type,
+    mutable: bool,
+    takes: &'static [Type],
+}
+
+fn signature_of(built_in: BuiltIn) -> Signature
+    ensures gives { result.gives ≡ built_in_gives built_in }
+    ensures mutable { result.mutable ≡ built_in_mutable built_in }
+    ensures takes { result.takes.now ≡ built_in_takes built_in }
 {
-    match b {
-        BuiltIn::Left => &[Type::Ref],
-        BuiltIn::Right => &[Type::Ref],
-        BuiltIn::IsAtom => &[Type::Q],
-        BuiltIn::IsNil => &[Type::Q],
-        BuiltIn::SetLeft => &[Type::Ref, Type::Q],
-        BuiltIn::SetRight => &[Type::Ref, Type::Q],
+    match built_in {
+        BuiltIn::Left | BuiltIn::Right => Signature {
+            gives: Type::Q,
+            mutable: false,
+            takes: &[Type::Ref],
+        },
+        BuiltIn::IsAtom | BuiltIn::IsNil => Signature {
+            gives: Type::Int,
+            mutable: false,
+            takes: &[Type::Q],
+        },
+        BuiltIn::SetLeft | BuiltIn::SetRight => Signature {
+            gives: Type::Int,
+            mutable: true,
+            takes: &[Type::Ref, Type::Q],
+        },
     }
 }
 
-fn result_of(g: Callee) -> Type
-    ensures { result ≡ result_of g }
-{
-    match g {
-        Callee::BuiltIn { built_in } => built_in_gives(built_in),
-        Callee::Defined { index: _, function } => function.head.ty,
-    }
-}
-
-fn is_mutable(g: Callee) -> bool
-    ensures { result ≡ is_mutable g }
-{
-    match g {
-        Callee::BuiltIn { built_in } => built_in_mutable(built_in),
-        Callee::Defined { index: _, function } => function.head.mutable,
-    }
-}
-
-fn formal_count(t: &Table, g: Callee) -> usize
-    ensures { result ≡ length (takes (ctx_of t.now) g) }
-{
-    match g {
-        Callee::BuiltIn { built_in } => built_in_takes(built_in).len(),
-        Callee::Defined { index: _, function } => part(
-            t.formals,
-            function.first,
-            function.formals,
-        ).len(),
-    }
-}
-
-// The type of formal `i`; int where there is none.
-fn formal_type(t: &Table, g: Callee, i: usize) -> Type
-    ensures { result ≡ slice_index_or (takes (ctx_of t.now) g) i Int }
-{
-    match g {
-        Callee::BuiltIn { built_in } => {
-            let types = built_in_takes(built_in);
-            if i < types.len() { types[i] } else { Type::Int }
+impl Callee {
+    fn gives(self) -> Type
+        ensures { result ≡ result_of self }
+    {
+        match self {
+            Callee::BuiltIn { built_in } => signature_of(built_in).gives,
+            Callee::Defined { function, .. } => function.head.ty,
         }
-        Callee::Defined { index: _, function } => {
-            let formals = part(t.formals, function.first, function.formals);
-            if i < formals.len() {
-                formals[i].ty
-            } else {
-                Type::Int
-            }
+    }
+
+    fn is_mutable(self) -> bool
+        ensures { result ≡ is_mutable self }
+    {
+        match self {
+            Callee::BuiltIn { built_in } => signature_of(built_in).mutable,
+            Callee::Defined { function, .. } => function.head.mutable,
         }
     }
 }
 
-// The faults of actuals that do not fit, as far as there are formals.
-fn actuals_faults(
-    t: &Table,
-    g: Callee,
-    actuals: &[Operand],
-    least: Option<CheckRefusal>,
-) -> Option<CheckRefusal>
-    ensures { result ≡ noted least (misfits actuals.now (takes (ctx_of t.now) g)) }
+// The actuals fit, and there is one for each formal.
+fn all_fit<T: Typed>(actuals: &[Operand], formals: &[T]) -> bool
+    ensures { result ≡ all_fit actuals.now (map T.type_of formals.now) }
 {
-    let count = formal_count(t, g);
-    let mut l = least;
-    let mut i = 0;
-    while i < count && i < actuals.len() {
-        let ty = formal_type(t, g, i);
-        l = want(l, actuals[i], Want::Fit { ty });
-        i += 1;
-    }
-    l
-}
-
-fn actuals_fit(t: &Table, g: Callee, actuals: &[Operand]) -> bool
-    ensures { result ≡ all_fit actuals.now (takes (ctx_of t.now) g) }
-{
-    if actuals.len() != formal_count(t, g) {
-        return false;
-    }
-    let mut i = 0;
-    while i < actuals.len() {
-        let ty = formal_type(t, g, i);
-        if !is_fitted(actuals[i].ty, Want::Fit { ty }) {
-            return false;
-        }
-        i += 1;
-    }
-    true
-}
-
-// The operands that are the last n.
-fn last(operands: &[Operand], n: usize) -> &[Operand]
-    ensures { result.now ≡ drop (length operands.now - n) operands.now }
-{
-    let from = operands.len().saturating_sub(n);
-    &operands[from..]
-}
-
-// The faults of a call whose actuals are the last n operands.
-pub fn call_faults(
-    t: &Table,
-    statement: bool,
-    caller: bool,
-    x: Name,
-    n: usize,
-    whom: Option<Callee>,
-    operands: &[Operand],
-    least: Option<CheckRefusal>,
-) -> Option<CheckRefusal>
-    ensures { result ≡ noted least (call_faults (ctx_of t.now) statement caller x n whom (drop (length operands.now - n) operands.now)) }
-{
-    match whom {
-        None => sooner(
-            least,
-            CheckRefusal {
-                at: x.at,
-                reason: Reason::NoFunction,
-            },
-        ),
-        Some(g) => {
-            let l = demand(
-                least,
-                is_allowed(statement, caller, is_mutable(g)),
-                x.at,
-                Reason::Mutability,
-            );
-            if n == formal_count(t, g) {
-                actuals_faults(t, g, last(operands, n), l)
-            } else {
-                sooner(
-                    l,
-                    CheckRefusal {
-                        at: x.at,
-                        reason: Reason::WrongCount,
-                    },
-                )
-            }
-        }
-    }
-}
-
-// The type of a call that has no fault.
-pub fn type_of_call(
-    t: &Table,
-    caller: bool,
-    n: usize,
-    whom: Option<Callee>,
-    operands: &[Operand],
-) -> Option<Type>
-    ensures { result ≡ call_type (ctx_of t.now) caller whom (drop (length operands.now - n) operands.now) }
-{
-    match whom {
-        None => None,
-        Some(g) => {
-            if !is_allowed(false, caller, is_mutable(g)) {
-                return None;
-            }
-            if !actuals_fit(t, g, last(operands, n)) {
-                return None;
-            }
-            Some(result_of(g))
-        }
-    }
-}
-
-fn name_at(g: Callee) -> usize
-    ensures { result ≡ name_at g }
-{
-    match g {
-        Callee::BuiltIn { built_in: _ } => 0,
-        Callee::Defined { index: _, function } => function.head.name.at,
-    }
-}
-
-fn is_int(ty: Type) -> bool
-    ensures { result ≡ is_int ty }
-{
-    match ty {
-        Type::Int => true,
-        Type::Ref => false,
-        Type::Q => false,
-    }
+    actuals.len() == formals.len()
+        && actuals
+            .iter()
+            .zip(formals)
+            .all(|(actual, formal)| actual.is_fit_for(formal.ty()))
 }
 
 // One formal, of type int.
-fn takes_one_int(t: &Table, g: Callee) -> bool
-    ensures { result ≡ one_int (takes (ctx_of t.now) g) }
+fn is_one_int(formals: &[Declarator]) -> bool
+    ensures { result ≡ one_int (map (λ declarator. declarator.ty) formals.now) }
 {
-    if formal_count(t, g) != 1 {
-        return false;
-    }
-    is_int(formal_type(t, g, 0))
+    matches!(formals, [only] if only.ty == Type::Int)
 }
 
-// What is wrong with `main`.
-pub fn main_fault(t: &Table, least: Option<CheckRefusal>) -> Option<CheckRefusal>
-    ensures { result ≡ noted least (main_faults (ctx_of t.now) (main_of (ctx_of t.now))) }
-{
-    match find_function(t.source, t.functions, b"main") {
-        None => sooner(
-            least,
-            CheckRefusal {
-                at: t.source.len(),
-                reason: Reason::NoMain,
-            },
-        ),
-        Some(g) => demand(least, takes_one_int(t, g), name_at(g), Reason::NoMain),
+impl LeastFault {
+    // The faults of actuals that do not fit, as far as there are formals.
+    fn want_fitting<T: Typed>(&mut self, actuals: &[Operand], formals: &[T])
+        ensures { self.new.found ≡ noted self.old.found (misfits actuals.now (map T.type_of formals.now)) }
+    {
+        for (actual, formal) in actuals.iter().zip(formals) {
+            self.want(*actual, Want::Fit { ty: formal.ty() });
+        }
+    }
+
+    // A call has as many actuals as there are formals, and they fit.
+    fn want_actuals<T: Typed>(&mut self, call: &Call, formals: &[T])
+        ensures { self.new.found ≡ noted self.old.found (cond (call.now.count == length formals.now) (misfits (actuals_of call.now) (map T.type_of formals.now)) (one call.now.name.at Reason.WrongCount)) }
+    {
+        if call.count == formals.len() {
+            self.want_fitting(call.actuals(), formals);
+        } else {
+            self.refuse(call.name.at, Reason::WrongCount);
+        }
+    }
+}
+
+impl Call<'_> {
+    fn actuals(&self) -> &[Operand]
+        ensures { result.now ≡ actuals_of self.now }
+    {
+        let first = self.operands.len().saturating_sub(self.count);
+        &self.operands[first..]
+    }
+}
+
+impl Table<'_> {
+    // The faults that a call has by itself.
+    #[tactic(auto, using(crate::proofs::Fitting::types_of_is, crate::proofs::Fitting::types_of_long))]
+    pub fn note_call(&self, call: &Call, least: &mut LeastFault)
+        ensures { least.new.found ≡ noted least.old.found (call_faults (ctx_of self.now) (is_statement call.now.place) call.now.in_mutable call.now.name call.now.count call.now.callee (actuals_of call.now)) }
+    {
+        let at = call.name.at;
+        match call.callee {
+            None => least.refuse(at, Reason::NoFunction),
+            Some(callee) => {
+                let allowed = is_allowed(call.place, call.in_mutable, callee.is_mutable());
+                least.demand(allowed, at, Reason::Mutability);
+                match callee {
+                    Callee::BuiltIn { built_in } => least.want_actuals(
+                        call,
+                        signature_of(built_in).takes,
+                    ),
+                    Callee::Defined { function, .. } => least.want_actuals(
+                        call,
+                        function.formals_in(self.formals),
+                    ),
+                }
+            }
+        }
+    }
+
+    fn do_actuals_fit(&self, call: &Call, callee: Callee) -> bool
+        ensures { result ≡ all_fit (actuals_of call.now) (takes (ctx_of self.now) callee) }
+    {
+        match callee {
+            Callee::BuiltIn { built_in } => all_fit(call.actuals(), signature_of(built_in).takes),
+            Callee::Defined { function, .. } => all_fit(
+                call.actuals(),
+                function.formals_in(self.formals),
+            ),
+        }
+    }
+
+    // The type of a call inside an expression, if it has no fault.
+    pub fn type_of_call(&self, call: &Call) -> Option<Type>
+        ensures { result ≡ call_type (ctx_of self.now) call.now.in_mutable call.now.callee (actuals_of call.now) }
+    {
+        let callee = call.callee?;
+        let allowed = is_allowed(CallPlace::Expression, call.in_mutable, callee.is_mutable());
+        (allowed && self.do_actuals_fit(call, callee)).then_some(callee.gives())
+    }
+
+    // What is wrong with `main`.
+    pub fn note_main(&self, least: &mut LeastFault)
+        ensures { least.new.found ≡ noted least.old.found (main_faults (ctx_of self.now) (main_of (ctx_of self.now))) }
+    {
+        match find_named(self.source, self.functions, b"main") {
+            None => least.refuse(self.source.len(), Reason::NoMain),
+            Some((_, main)) => {
+                let holds = is_one_int(main.formals_in(self.formals));
+                least.demand(holds, main.head.name.at, Reason::NoMain);
+            }
+        }
     }
 }

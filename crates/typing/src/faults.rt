@@ -1,9 +1,8 @@
 // The least fault so far, with those that are found.
 ghost use Rattle.std.specs.Prelude.{◌≡◌};
-ghost use Rattle.typing.specs.Faults.{number_of, before, note, noted, unfit, unless, unseen, seen, assign_faults, type_at};
+ghost use Rattle.typing.specs.Faults.{number_of, fault, note, noted, unfit, unless, unseen, seen, assign_faults, type_at};
 
-use crate::fits::does_meet;
-use crate::types::{CheckRefusal, Operand, Reason, Variable, Want};
+use crate::types::{CheckRefusal, LeastFault, Operand, Reason, Variable, Want};
 use script::Type;
 
 impl CheckRefusal {
@@ -11,151 +10,70 @@ impl CheckRefusal {
     pub fn number(self) -> u8
         ensures { result ≡ number_of self.reason }
     {
-        match self.reason {
-            Reason::NameTaken => 10,
-            Reason::NoMain => 11,
-            Reason::TooMany => 12,
-            Reason::InView => 13,
-            Reason::NotInView => 14,
-            Reason::NoFunction => 15,
-            Reason::WrongCount => 16,
-            Reason::Unfit => 17,
-            Reason::Immutable => 18,
-            Reason::Mutability => 19,
-            Reason::NoReturn => 20,
-        }
+        self.reason as u8
     }
+}
 
-    fn is_before(self, other: CheckRefusal) -> bool
-        ensures { result ≡ before self other }
+impl LeastFault {
+    pub fn note(&mut self, fault: CheckRefusal)
+        ensures { self.new.found ≡ note self.old.found fault }
     {
-        if self.at < other.at {
-            return true;
+        let least = self.found.map_or(fault, |found| found.min(fault));
+        self.found = Some(least);
+    }
+
+    // What does not hold is a fault at this offset.
+    pub fn demand(&mut self, holds: bool, at: usize, reason: Reason)
+        ensures { self.new.found ≡ noted self.old.found (unless holds at reason) }
+    {
+        if !holds {
+            self.refuse(at, reason);
         }
-        if self.at == other.at {
-            return self.number() < other.number();
-        }
-        false
     }
-}
 
-pub fn sooner(least: Option<CheckRefusal>, f: CheckRefusal) -> Option<CheckRefusal>
-    ensures { result ≡ note least f }
-{
-    match least {
-        None => Some(f),
-        Some(g) => if f.is_before(g) { Some(f) } else { Some(g) },
+    pub(crate) fn refuse(&mut self, at: usize, reason: Reason)
+        ensures { self.new.found ≡ note self.old.found (fault at reason) }
+    {
+        self.note(CheckRefusal { at, reason });
     }
-}
 
-// An operand that is not what is wanted is a fault at its first byte.
-pub fn want(least: Option<CheckRefusal>, p: Operand, w: Want) -> Option<CheckRefusal>
-    ensures { result ≡ noted least (unfit p.ty w p.start) }
-{
-    match p.ty {
-        None => least,
-        Some(ty) => if does_meet(ty, w) {
-            least
-        } else {
-            sooner(
-                least,
-                CheckRefusal {
-                    at: p.start,
-                    reason: Reason::Unfit,
-                },
-            )
-        },
+    // An operand that is not what is wanted is a fault at its first byte.
+    pub fn want(&mut self, operand: Operand, wanted: Want)
+        ensures { self.new.found ≡ noted self.old.found (unfit operand.ty wanted operand.start) }
+    {
+        let holds = operand.ty.is_none_or(|ty| wanted.is_met_by(ty));
+        self.demand(holds, operand.start, Reason::Unfit);
     }
-}
 
-pub fn demand(
-    least: Option<CheckRefusal>,
-    holds: bool,
-    at: usize,
-    reason: Reason,
-) -> Option<CheckRefusal>
-    ensures { result ≡ noted least (unless holds at reason) }
-{
-    if holds {
-        least
-    } else {
-        sooner(least, CheckRefusal { at, reason })
+    // A name that is declared is not in view.
+    pub fn want_unseen(&mut self, variable: Option<Variable>, at: usize)
+        ensures { self.new.found ≡ noted self.old.found (seen variable at) }
+    {
+        self.demand(variable.is_none(), at, Reason::InView);
     }
-}
 
-// A name that is declared is not in view.
-pub fn seen_fault(
-    least: Option<CheckRefusal>,
-    v: Option<Variable>,
-    at: usize,
-) -> Option<CheckRefusal>
-    ensures { result ≡ noted least (seen v at) }
-{
-    match v {
-        None => least,
-        Some(_) => sooner(
-            least,
-            CheckRefusal {
-                at,
-                reason: Reason::InView,
-            },
-        ),
+    // A variable that is used is in view.
+    pub fn want_seen(&mut self, variable: Option<Variable>, at: usize)
+        ensures { self.new.found ≡ noted self.old.found (unseen variable at) }
+    {
+        self.demand(variable.is_some(), at, Reason::NotInView);
     }
-}
 
-// A variable that is used is in view.
-pub fn unseen_fault(
-    least: Option<CheckRefusal>,
-    v: Option<Variable>,
-    at: usize,
-) -> Option<CheckRefusal>
-    ensures { result ≡ noted least (unseen v at) }
-{
-    match v {
-        None => sooner(
-            least,
-            CheckRefusal {
-                at,
-                reason: Reason::NotInView,
-            },
-        ),
-        Some(_) => least,
-    }
-}
-
-pub fn assign_faults(
-    least: Option<CheckRefusal>,
-    v: Option<Variable>,
-    at: usize,
-    p: Operand,
-) -> Option<CheckRefusal>
-    ensures { result ≡ noted least (assign_faults v at p) }
-{
-    match v {
-        None => sooner(
-            least,
-            CheckRefusal {
-                at,
-                reason: Reason::NotInView,
-            },
-        ),
-        Some(found) => {
-            let ty = found.declared.ty;
-            demand(
-                want(least, p, Want::Fit { ty }),
-                found.declared.mutable,
-                at,
-                Reason::Immutable,
-            )
+    pub fn want_assignable(&mut self, variable: Option<Variable>, at: usize, operand: Operand)
+        ensures { self.new.found ≡ noted self.old.found (assign_faults variable at operand) }
+    {
+        match variable {
+            None => self.refuse(at, Reason::NotInView),
+            Some(Variable { declared, .. }) => {
+                self.want(operand, Want::Fit { ty: declared.ty });
+                self.demand(declared.mutable, at, Reason::Immutable);
+            }
         }
     }
 }
 
-pub fn type_seen(v: Option<Variable>) -> Option<Type>
-    ensures { result ≡ type_at v }
+pub fn type_seen(variable: Option<Variable>) -> Option<Type>
+    ensures { result ≡ type_at variable }
 {
-    match v {
-        None => None,
-        Some(found) => Some(found.declared.ty),
-    }
+    variable.map(|found| found.declared.ty)
 }

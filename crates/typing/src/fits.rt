@@ -2,91 +2,64 @@
 ghost use Rattle.std.specs.Prelude.{◌≡◌};
 ghost use Rattle.typing.specs.Types.{fits, castable, meets, wants, gives, allowed};
 ghost use Rattle.typing.specs.Faults.{fitted, negate_type, cast_type, binary_type};
+ghost use Rattle.typing.specs.View.{is_statement};
 
-use crate::types::Want;
+use crate::types::{CallPlace, Operand, Want};
 use script::{Operator, Type};
 
-fn does_fit(t: Type, wanted: Type) -> bool
-    ensures { result ≡ fits t wanted }
+fn does_fit(ty: Type, wanted: Type) -> bool
+    ensures { result ≡ fits ty wanted }
 {
-    match wanted {
-        Type::Int => match t {
-            Type::Int => true,
-            Type::Ref => false,
-            Type::Q => false,
-        },
-        Type::Ref => match t {
-            Type::Int => false,
-            Type::Ref => true,
-            Type::Q => false,
-        },
-        Type::Q => match t {
-            Type::Int => true,
-            Type::Ref => true,
-            Type::Q => true,
-        },
+    wanted == Type::Q || ty == wanted
+}
+
+fn can_cast(ty: Type, to: Type) -> bool
+    ensures { result ≡ castable ty to }
+{
+    ty == Type::Q || does_fit(ty, to)
+}
+
+impl Want {
+    pub(crate) fn is_met_by(self, ty: Type) -> bool
+        ensures { result ≡ meets ty self }
+    {
+        match self {
+            Want::Fit { ty: wanted } => does_fit(ty, wanted),
+            Want::Cast { to } => can_cast(ty, to),
+        }
+    }
+
+    // The type is known and is what is wanted.
+    pub(crate) fn is_met_by_known(self, ty: Option<Type>) -> bool
+        ensures { result ≡ fitted ty self }
+    {
+        ty.is_some_and(|known| self.is_met_by(known))
     }
 }
 
-fn can_cast(t: Type, to: Type) -> bool
-    ensures { result ≡ castable t to }
-{
-    match t {
-        Type::Int => match to {
-            Type::Int => true,
-            Type::Ref => false,
-            Type::Q => true,
-        },
-        Type::Ref => match to {
-            Type::Int => false,
-            Type::Ref => true,
-            Type::Q => true,
-        },
-        Type::Q => match to {
-            Type::Int => true,
-            Type::Ref => true,
-            Type::Q => true,
-        },
-    }
-}
-
-pub(crate) fn does_meet(t: Type, w: Want) -> bool
-    ensures { result ≡ meets t w }
-{
-    match w {
-        Want::Fit { ty } => does_fit(t, ty),
-        Want::Cast { to } => can_cast(t, to),
-    }
-}
-
-pub(crate) fn is_fitted(t: Option<Type>, w: Want) -> bool
-    ensures { result ≡ fitted t w }
-{
-    match t {
-        None => false,
-        Some(ty) => does_meet(ty, w),
+impl Operand {
+    pub(crate) fn is_fit_for(&self, ty: Type) -> bool
+        ensures { result ≡ fitted self.now.ty (Want.Fit ty) }
+    {
+        Want::Fit { ty }.is_met_by_known(self.ty)
     }
 }
 
 // What both operands must fit.
-pub fn operator_wants(o: Operator) -> Type
-    ensures { result ≡ wants o }
+pub fn operator_wants(operator: Operator) -> Type
+    ensures { result ≡ wants operator }
 {
-    match o {
-        Operator::Multiply => Type::Int,
-        Operator::Add => Type::Int,
-        Operator::Subtract => Type::Int,
+    match operator {
+        Operator::Multiply | Operator::Add | Operator::Subtract => Type::Int,
         Operator::Dot => Type::Q,
     }
 }
 
-fn operator_gives(o: Operator) -> Type
-    ensures { result ≡ gives o }
+fn operator_gives(operator: Operator) -> Type
+    ensures { result ≡ gives operator }
 {
-    match o {
-        Operator::Multiply => Type::Int,
-        Operator::Add => Type::Int,
-        Operator::Subtract => Type::Int,
+    match operator {
+        Operator::Multiply | Operator::Add | Operator::Subtract => Type::Int,
         Operator::Dot => Type::Ref,
     }
 }
@@ -94,39 +67,33 @@ fn operator_gives(o: Operator) -> Type
 pub fn type_of_negation(operand: Option<Type>) -> Option<Type>
     ensures { result ≡ negate_type operand }
 {
-    if is_fitted(operand, Want::Fit { ty: Type::Int }) {
-        Some(Type::Int)
-    } else {
-        None
-    }
+    let fits_int = Want::Fit { ty: Type::Int }.is_met_by_known(operand);
+    fits_int.then_some(Type::Int)
 }
 
 pub fn type_of_cast(to: Type, operand: Option<Type>) -> Option<Type>
     ensures { result ≡ cast_type to operand }
 {
-    if is_fitted(operand, Want::Cast { to }) {
-        Some(to)
+    Want::Cast { to }.is_met_by_known(operand).then_some(to)
+}
+
+pub fn type_of_binary(operator: Operator, left: Option<Type>, right: Option<Type>) -> Option<Type>
+    ensures { result ≡ binary_type operator left right }
+{
+    let wanted = Want::Fit {
+        ty: operator_wants(operator),
+    };
+    let both_fit = wanted.is_met_by_known(left) && wanted.is_met_by_known(right);
+    both_fit.then_some(operator_gives(operator))
+}
+
+// A call at this place may stand in a function of the first mutability and call one of the second.
+pub(crate) fn is_allowed(place: CallPlace, caller: bool, called: bool) -> bool
+    ensures { result ≡ allowed (is_statement place) caller called }
+{
+    if called {
+        caller
     } else {
-        None
+        place == CallPlace::Expression
     }
-}
-
-pub fn type_of_binary(o: Operator, left: Option<Type>, right: Option<Type>) -> Option<Type>
-    ensures { result ≡ binary_type o left right }
-{
-    let ty = operator_wants(o);
-    if !is_fitted(left, Want::Fit { ty }) {
-        return None;
-    }
-    if !is_fitted(right, Want::Fit { ty }) {
-        return None;
-    }
-    Some(operator_gives(o))
-}
-
-// A call (or a call statement) may stand in a function of that mutability and call one of this.
-pub(crate) fn is_allowed(statement: bool, caller: bool, called: bool) -> bool
-    ensures { result ≡ allowed statement caller called }
-{
-    if called { caller } else { !statement }
 }

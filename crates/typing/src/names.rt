@@ -1,166 +1,138 @@
-// Names: what spells them, and what they mean.
-ghost use Rattle.std.specs.Prelude.{◌≡◌, take, drop};
-ghost use Rattle.std.specs.Str.{bytes_eq};
-ghost use Rattle.typing.specs.Names.{spelled, named, find, find_function, built_in_named, left_out, reserved, callee, look, taken};
+// Names: what they mean.
+ghost use Rattle.std.specs.Prelude.{◌≡◌, option_map, find};
+ghost use Rattle.std.specs.List.{enumerate_from};
+ghost use Rattle.script.specs.declared.types.Name.{Name};
+ghost use Rattle.typing.specs.Names.{named, find_function, built_in_named, left_out, reserved, callee, look, taken};
 ghost use Rattle.typing.specs.Faults.{slot_of};
 ghost use Rattle.typing.specs.View.{ctx_of};
 
 use crate::types::{Callee, Table, Variable};
 use script::{BuiltIn, Declarator, Function, Name};
 
-// At most `len` elements from `at` on.
-pub(crate) fn part<'a, T>(s: &'a [T], at: usize, len: usize) -> &'a [T]
-    ensures { result.now ≡ take len (drop at s.now) }
-{
-    let n = s.len();
-    if at >= n {
-        return &s[n..];
-    }
-    if len >= n - at {
-        return &s[at..];
-    }
-    let end = at + len;
-    &s[at..end]
+// What is declared under a name.
+pub(crate) trait Named {
+    ghost name_of: { Self → Name };
+
+    fn name(&self) -> Name
+        ensures { result ≡ name_of self.now };
 }
 
-// The bytes of a name.
-fn spelling<'a>(source: &'a [u8], x: Name) -> &'a [u8]
-    ensures { result.now ≡ spelled source.now x }
-{
-    part(source, x.at, x.len)
-}
+impl Named for Declarator {
+    ghost name_of = { λ declarator. declarator.name };
 
-fn same(a: &[u8], b: &[u8]) -> bool
-    ensures { result ≡ bytes_eq a.now b.now }
-{
-    a == b
-}
-
-fn is_named(source: &[u8], x: Name, text: &[u8]) -> bool
-    ensures { result ≡ named source.now x text.now }
-{
-    same(spelling(source, x), text)
-}
-
-// The first variable of that name, from the oldest on.
-fn find_named(source: &[u8], variables: &[Declarator], text: &[u8]) -> Option<Variable>
-    ensures { result ≡ find source.now variables.now text.now 0 }
-{
-    let mut i = 0;
-    while i < variables.len() {
-        let declared = variables[i];
-        if is_named(source, declared.name, text) {
-            return Some(Variable { slot: i, declared });
-        }
-        i += 1;
-    }
-    None
-}
-
-// The variable that a name means where these are in view.
-pub fn find_variable(t: &Table, variables: &[Declarator], x: Name) -> Option<Variable>
-    ensures { result ≡ look (ctx_of t.now) variables.now x }
-{
-    find_named(t.source, variables, spelling(t.source, x))
-}
-
-pub fn slot_seen(v: Option<Variable>) -> usize
-    ensures { result ≡ slot_of v }
-{
-    match v {
-        None => 0,
-        Some(found) => found.slot,
+    fn name(&self) -> Name {
+        self.name
     }
 }
 
-// The first function of that name.
-pub(crate) fn find_function(source: &[u8], functions: &[Function], text: &[u8]) -> Option<Callee>
-    ensures { result ≡ find_function source.now functions.now text.now 0 }
-{
-    let mut i = 0;
-    while i < functions.len() {
-        let function = functions[i];
-        if is_named(source, function.head.name, text) {
-            return Some(Callee::Defined { index: i, function });
-        }
-        i += 1;
+impl Named for Function {
+    ghost name_of = { λ function. function.head.name };
+
+    fn name(&self) -> Name {
+        self.head.name
     }
-    None
 }
+
+fn is_named(source: &[u8], name: Name, text: &[u8]) -> bool
+    ensures { result ≡ named source.now name text.now }
+{
+    name.spelling(source) == text
+}
+
+// The first item of that name, and its place.
+pub(crate) fn find_named<'a, T: Named>(
+    source: &[u8],
+    items: &'a [T],
+    text: &[u8],
+) -> Option<(usize, &'a T)>
+    ensures { option_map (λ p. (p.0, p.1.now)) result ≡ find (λ p. named source.now (T.name_of p.1) text.now) (enumerate_from 0 items.now) }
+{
+    items
+        .iter()
+        .enumerate()
+        .find(|(_, item)| is_named(source, item.name(), text))
+}
+
+const BUILT_INS: [(&[u8], BuiltIn); 6] = [
+    (b"left", BuiltIn::Left),
+    (b"right", BuiltIn::Right),
+    (b"isAtom", BuiltIn::IsAtom),
+    (b"isNil", BuiltIn::IsNil),
+    (b"setLeft", BuiltIn::SetLeft),
+    (b"setRight", BuiltIn::SetRight),
+];
 
 fn built_in_named(text: &[u8]) -> Option<BuiltIn>
     ensures { result ≡ built_in_named text.now }
 {
-    if same(text, b"left") {
-        return Some(BuiltIn::Left);
-    }
-    if same(text, b"right") {
-        return Some(BuiltIn::Right);
-    }
-    if same(text, b"isAtom") {
-        return Some(BuiltIn::IsAtom);
-    }
-    if same(text, b"isNil") {
-        return Some(BuiltIn::IsNil);
-    }
-    if same(text, b"setLeft") {
-        return Some(BuiltIn::SetLeft);
-    }
-    if same(text, b"setRight") {
-        return Some(BuiltIn::SetRight);
-    }
-    None
+    BUILT_INS
+        .iter()
+        .find(|(name, _)| text == *name)
+        .map(|(_, built_in)| *built_in)
 }
 
-// The name of a built-in that is left out of the language.
+// The names of the built-ins that are left out of the language.
+const LEFT_OUT: [&[u8]; 3] = [b"acq", b"rel", b"randomInt"];
+
 fn is_left_out(text: &[u8]) -> bool
     ensures { result ≡ left_out text.now }
 {
-    if same(text, b"acq") {
-        return true;
-    }
-    if same(text, b"rel") {
-        return true;
-    }
-    same(text, b"randomInt")
+    LEFT_OUT.contains(&text)
 }
 
 fn is_reserved(text: &[u8]) -> bool
     ensures { result ≡ reserved text.now }
 {
-    if is_left_out(text) {
-        return true;
+    is_left_out(text) || built_in_named(text).is_some()
+}
+
+// The first function of that name.
+fn find_function(source: &[u8], functions: &[Function], text: &[u8]) -> Option<Callee>
+    ensures { result ≡ find_function source.now functions.now text.now 0 }
+{
+    find_named(source, functions, text).map(|(index, function)| Callee::Defined {
+        index,
+        function: *function,
+    })
+}
+
+impl Table<'_> {
+    // The variable that a name means where these are in view.
+    pub fn find_variable(&self, variables: &[Declarator], name: Name) -> Option<Variable>
+        ensures { result ≡ look (ctx_of self.now) variables.now name }
+    {
+        let text = name.spelling(self.source);
+        find_named(self.source, variables, text).map(|(slot, declared)| Variable {
+            slot,
+            declared: *declared,
+        })
     }
-    match built_in_named(text) {
-        None => false,
-        Some(_) => true,
+
+    // What a name means in a call.
+    pub fn called(&self, name: Name) -> Option<Callee>
+        ensures { result ≡ callee (ctx_of self.now) name }
+    {
+        let text = name.spelling(self.source);
+        if is_left_out(text) {
+            return None;
+        }
+        built_in_named(text)
+            .map(|built_in| Callee::BuiltIn { built_in })
+            .or_else(|| find_function(self.source, self.functions, text))
+    }
+
+    // Function `index` may not have this name.
+    pub fn is_taken(&self, index: usize, name: Name) -> bool
+        ensures { result ≡ taken (ctx_of self.now) index name }
+    {
+        let text = name.spelling(self.source);
+        let before = self.functions.get(..index).unwrap_or(self.functions);
+        is_reserved(text) || find_function(self.source, before, text).is_some()
     }
 }
 
-// What a name means in a call.
-pub fn called(t: &Table, x: Name) -> Option<Callee>
-    ensures { result ≡ callee (ctx_of t.now) x }
+pub fn slot_seen(variable: Option<Variable>) -> usize
+    ensures { result ≡ slot_of variable }
 {
-    let text = spelling(t.source, x);
-    if is_left_out(text) {
-        return None;
-    }
-    match built_in_named(text) {
-        Some(built_in) => Some(Callee::BuiltIn { built_in }),
-        None => find_function(t.source, t.functions, text),
-    }
-}
-
-// Function `i` may not have this name.
-pub fn is_taken(t: &Table, i: usize, x: Name) -> bool
-    ensures { result ≡ taken (ctx_of t.now) i x }
-{
-    let text = spelling(t.source, x);
-    if is_reserved(text) {
-        return true;
-    }
-    match find_function(t.source, part(t.functions, 0, i), text) {
-        None => false,
-        Some(_) => true,
-    }
+    variable.map_or(0, |found| found.slot)
 }

@@ -1,5 +1,5 @@
 // What the static rules speak of.
-use script::{BuiltIn, Declarator, Function, Type};
+use script::{BuiltIn, Declarator, Function, Name, Type};
 
 // A variable in view: its place from the bottom of the call's values, and how it was declared.
 #[derive(Clone, Copy)]
@@ -22,6 +22,24 @@ pub struct Operand {
     pub start: usize,
 }
 
+// How a call stands in a script: inside an expression, or as a statement.
+#[derive(Clone, Copy, Debug, PartialEq, Eq)]
+pub enum CallPlace {
+    Expression,
+    Statement,
+}
+
+// A call whose actuals were gone through: they are the last `count` of the operands. `in_mutable`: it stands in a mutable function.
+#[derive(Clone, Copy)]
+pub struct Call<'o> {
+    pub name: Name,
+    pub callee: Option<Callee>,
+    pub place: CallPlace,
+    pub in_mutable: bool,
+    pub count: usize,
+    pub operands: &'o [Operand],
+}
+
 // What is wanted of an expression: that it fits a type, or that it can be cast to one.
 #[derive(Clone, Copy)]
 pub enum Want {
@@ -29,29 +47,36 @@ pub enum Want {
     Cast { to: Type },
 }
 
-// Why a script does not pass.
-#[derive(Clone, Copy, Debug, PartialEq, Eq)]
+// Why a script does not pass, each with its number.
+#[derive(Clone, Copy, Debug, PartialEq, Eq, PartialOrd, Ord)]
 pub enum Reason {
-    NameTaken,
-    NoMain,
-    TooMany,
-    InView,
-    NotInView,
-    NoFunction,
-    WrongCount,
-    Unfit,
-    Immutable,
-    Mutability,
-    NoReturn,
+    NameTaken = 10,
+    NoMain = 11,
+    TooMany = 12,
+    InView = 13,
+    NotInView = 14,
+    NoFunction = 15,
+    WrongCount = 16,
+    Unfit = 17,
+    Immutable = 18,
+    Mutability = 19,
+    NoReturn = 20,
 }
 
-#[derive(Clone, Copy, Debug, PartialEq, Eq)]
+// A fault. The one that comes first is the lesser one.
+#[derive(Clone, Copy, Debug, PartialEq, Eq, PartialOrd, Ord)]
 pub struct CheckRefusal {
     pub at: usize,
     pub reason: Reason,
 }
 
-// A source and the table of its functions, their formals one after the other.
+// The least fault that was found so far.
+#[derive(Clone, Copy, Debug, Default, PartialEq, Eq)]
+pub struct LeastFault {
+    pub found: Option<CheckRefusal>,
+}
+
+// A source and the table of its functions, their formals one after the other. No `impl Model`: it is `Copy`, and the view `ctx_of` has no inverse.
 #[derive(Clone, Copy)]
 pub struct Table<'s> {
     pub source: &'s [u8],

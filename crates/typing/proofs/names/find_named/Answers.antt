@@ -1,12 +1,9 @@
-use Rattle.std.proofs.Common.{sym, ◌∙◌}
-use Rattle.typing.proofs.Loops.{find_hit, find_on, find_end}
+use Rattle.std.proofs.Common.{rules, tests}
+use Rattle.std.proofs.lemmas.Iterator.{YieldsList-from_slice}
+use Rattle.std.proofs.lemmas.Iterator.Consumers.{YieldsList-from_enumerate}
+use Rattle.std.proofs.lemmas.Iterator.Search.{find_from_yields_List}
+use Rattle.typing.specs.Names.{named}
 use Rattle.typing.proofs.names.find_named.Goals as goal
 
-pub returns-then-is_named : goal.returns-then-is_named
-returns-then-is_named c = sym (c.loop-i.invariant ∙ find_hit c.args.source.now c.args.text.now c.args.variables.now c.loop-i.i _ c.loop-i-test.true (sym c.if-is_named.ensures))
-
-pub loop-i-preserved : goal.loop-i-preserved
-loop-i-preserved c = c.loop-i.invariant ∙ find_on c.args.source.now c.args.text.now c.args.variables.now c.loop-i.i _ c.loop-i-test.true (sym c.if-is_named.ensures)
-
 pub returns : goal.returns
-returns c = sym (c.loop-i.invariant ∙ find_end c.args.source.now c.args.text.now c.args.variables.now c.loop-i.i c.loop-i-test.false)
+returns g c = find_from_yields_List (λ p. named c.args.source.now (g.T.Named.name_of p.1) c.args.text.now) _ _ _ c.find.ensures.ran (YieldsList-from_enumerate (YieldsList-from_slice c.args.items.now cc) cc) (λ x b q k. search (rules, tests))
