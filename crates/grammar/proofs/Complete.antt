@@ -19,7 +19,7 @@ use Rattle.grammar.specs.Grammar as rule
 use Rattle.grammar.specs.Grammar.{Expression, Actuals, SomeActuals, Condition}
 use Rattle.grammar.specs.Combine.{kind, kind_at, is, out_done, Parser, next, after, from, ret, bad, on, want, loop, separated, listed}
 use Rattle.grammar.specs.Parse.{is_name, is_constant, is_type, binding, operates, compares, joining, joins, type_of, thing_expr, Got, got, Found, binary, goes, level, actuals, named, cast_to, grouped, operand_by, operand, expression, negation_by, merged, negation, condition}
-use Rattle.grammar.proofs.Symbols.{never, Sharp, operates_sharp, own, operator_is, operator_binds}
+use Rattle.grammar.proofs.Symbols.{never, Sharp, operates_sharp, operator_is, operator_binds}
 use Rattle.grammar.proofs.Local.{on_else, on_it}
 use Rattle.grammar.proofs.Reader.{or_left, or_right}
 
@@ -45,7 +45,7 @@ unfolding on
 skip test p q t ts e i = rw (ap (λ s. test (kind s)) i.symbol ∙ e) refl
 
 pub wanted : {X : Type 0} {d : ℕ} (m : Mark) (q : Parser X) (t : Tok) (ts : List Tok) → Is d (mark m) t → want d m q (t ∷ ts) ≡ q ts
-wanted m q t ts i = take (is (mark m)) (λ i. q) bad t ts (own (mark m)) i
+wanted m q t ts i = take (is (mark m)) (λ i. q) bad t ts (eq-eqb (kind (mark m)) _ refl) i
 
 pub loop_go : {X : Type 0} {d : ℕ} {s : Symbol} (test : ℕ → Bool) (f : X → Item → Parser X) (h : ℕ) (x : X) (t : Tok) (ts : List Tok) {y : X} {rest : List Tok} → test (kind s) ≡ true → Is d s t
     → f x (item s t.at) ts ≡ out_done y rest → loop d test f (suc h) x (t ∷ ts) ≡ loop d test f h y rest
