@@ -11,10 +11,10 @@ use Rattle.grammar.specs.Refusals.{Ended, last, before, BeginsProgram, BeginsWit
 use Rattle.grammar.specs.Combine.{kind_at, Why, why_bad, why_deep, why_many, why_gas, Out, out_done, out_fail}
 use Rattle.grammar.specs.Parse.{program, why_number, number_of, verdict, outcome}
 use Rattle.grammar.proofs.Symbols.{never, an_end}
-use Rattle.grammar.proofs.Local.{Eaten, nothing, bite, Fails, fails}
+use Rattle.grammar.proofs.Local.{Eaten, nothing, bite}
 use Rattle.grammar.proofs.Sound.{derived}
 use Rattle.grammar.proofs.Fuel.{enough_gas}
-use Rattle.grammar.proofs.Refusing.{closes, Read, read, eaten_eq, begins_within, front_within, refused_bad, refused_deep, Told, Refused, refused, fails_more, done_more, done_eats}
+use Rattle.grammar.proofs.Refusing.{closes, Read, read, not_read, eaten_eq, begins_within, front_within, refused_bad, refused_deep, Told, Refused, refused, fails_more, done_more, done_eats}
 
 -- the token of an item that comes after n others
 abbrev tok : ℕ → Item → Tok
@@ -108,10 +108,7 @@ complete is p en w = by (program (suc (length is)) (tokens is)) refl
         let z : out_done q rest ≡ out_done p r.rest = sym (done_more (suc (length is)) G (omega arith) (tokens is) rest q i) ∙ g in
         let y : q ≡ p = cc in
         ap reads y
-    by (out_fail rest why) i = absurd (none (fails_more (suc (length is)) G (omega arith) (tokens is) rest why (enough is rest why i) i))
-      where
-        none : Fails (program G (tokens is)) → ⊥
-        none (fails {rest = s} {why = y} f) = let z : out_fail s y ≡ out_done p r.rest = sym f ∙ g in absurd (grind arith)
+    by (out_fail rest why) i = absurd (not_read (fails_more (suc (length is)) G (omega arith) (tokens is) rest why (enough is rest why i) i) g)
 
 -- what was refused: at the item i, and why
 pub record Stopped (is : List Item) (o n : ℕ) : Type 0 where

@@ -1,5 +1,6 @@
 -- The reader of expressions and conditions looks no further, and can be completed. Assumes nothing.
-use Rattle.std.proofs.Common.{◌≡◌, ℕ, zero, suc, ◌+◌, ◌<◌, Bool, true, false, cond, eqb, List, refl, arith, ne_eqb, eqb-true}
+use Rattle.std.proofs.Common.{◌≡◌, ℕ, zero, suc, ◌+◌, ◌<◌, Bool, true, false, not, ◌||◌, eqb, List, refl, arith, eqb-true}
+use Rattle.std.proofs.lemmas.Bool.{not-false, or_parts}
 use Rattle.script.specs.declared.types.Name.{Name}
 use Rattle.script.specs.declared.types.«Type».{«Type» as Ty}
 use Rattle.script.specs.Tree as tree
@@ -10,51 +11,33 @@ use Rattle.tokens.specs.Spelling.{constant, keyword, mark, Item}
 use Rattle.grammar.specs.Tokens.{Tok}
 use Rattle.grammar.specs.Combine.{kind, is, Parser, after, ret, bad, on, loop, listed}
 use Rattle.grammar.specs.Parse.{is_name, is_constant, is_type, binding, operates, compares, joining, joins, name_of, type_of, operator_of, comparison_of, join_of, Thing, thing_expr, thing_cond, Got, got, Found, found, binary, goes, level, actuals, named, cast_to, grouped, operand_by, operand, expression, compared, tested, negation_by, joined, holds, condition_by, negation, condition}
-use Rattle.grammar.proofs.Symbols.{never, mark_sharp, operates_sharp, joins_sharp}
+use Rattle.grammar.proofs.Symbols.{never, mark_sharp, operates_sharp, joins_sharp, no_level}
 use Rattle.grammar.proofs.Local.{Lo, Alive, Less, no_kind, looser, ret_lo, bad_lo, ret_alive, on_lo, on_alive, else_alive, after_alive, from_alive, Good, less_is, less_refl, less_none, seq, seq_from, map, gas_good, weak, wide, wide_alive, wants, closing, loop_alive, loop_good, separated_good}
 
 -- the kinds that go on with an expression, with actuals, and with a thing
 abbrev pub ends_expression : ℕ → Bool
-ends_expression k = cond (is (mark sign.LeftParen) k) true (cond (eqb (binding k) 0) false true)
+ends_expression k = is (mark sign.LeftParen) k || not (eqb (binding k) 0)
 
 abbrev pub ends_actual : ℕ → Bool
-ends_actual k = cond (ends_expression k) true (is (mark sign.Comma) k)
+ends_actual k = ends_expression k || is (mark sign.Comma) k
 
 abbrev pub ends_test : ℕ → Bool
-ends_test k = cond (ends_expression k) true (cond (compares k) true (cond (eqb (joining k) 0) false true))
-
-pub or_left : (a b : Bool) → cond a true b ≡ false → a ≡ false
-or_left true b e = e
-or_left false b e = refl
-
-pub or_right : (a b : Bool) → cond a true b ≡ false → b ≡ false
-or_right true b e = never e
-or_right false b e = e
-
-pub is_zero : (n : ℕ) → cond (eqb n 0) false true ≡ false → n ≡ 0
-is_zero n e = by (eqb n 0) refl e
-  where
-    by : (b : Bool) → eqb n 0 ≡ b → cond b false true ≡ false → n ≡ 0
-    by true i e = eqb-true n 0 i
-    by false i e = never e
-
-no_level : (n k : ℕ) → k ≡ 0 → eqb k (suc n) ≡ false
-no_level n k e = ne_eqb k (suc n) (λ i. omega arith)
+ends_test k = ends_expression k || (compares k || not (eqb (joining k) 0))
 
 ea : Less ends_expression ends_actual
-ea = record { so = λ k e. or_left (ends_expression k) _ e }
+ea = record { so = λ k e. (or_parts (ends_expression k) _ e).0 }
 
 et : Less ends_expression ends_test
-et = record { so = λ k e. or_left (ends_expression k) _ e }
+et = record { so = λ k e. (or_parts (ends_expression k) _ e).0 }
 
 operates_less : (n : ℕ) → Less (operates (suc n)) ends_expression
-operates_less n = record { so = λ k e. no_level n (binding k) (is_zero (binding k) (or_right (is (mark sign.LeftParen) k) _ e)) }
+operates_less n = record { so = λ k e. no_level n (binding k) (eqb-true (binding k) 0 (not-false _ (or_parts (is (mark sign.LeftParen) k) _ e).1)) }
 
 compares_less : Less compares ends_test
-compares_less = record { so = λ k e. or_left (compares k) _ (or_right (ends_expression k) _ e) }
+compares_less = record { so = λ k e. (or_parts (compares k) _ (or_parts (ends_expression k) _ e).1).0 }
 
 joins_less : (n : ℕ) → Less (joins (suc n)) ends_test
-joins_less n = record { so = λ k e. no_level n (joining k) (is_zero (joining k) (or_right (compares k) _ (or_right (ends_expression k) _ e))) }
+joins_less n = record { so = λ k e. no_level n (joining k) (eqb-true (joining k) 0 (not-false _ (or_parts (compares k) _ (or_parts (ends_expression k) _ e).1).1)) }
 
 -- after an expression of a thing
 goes_alive : (m : Bool) (K : Expr → Parser Expr) → ((e : Expr) → Alive false ends_expression ends_expression (K e)) → (x : Got m) → Alive false ends_expression ends_expression (goes m K x)

@@ -1,5 +1,6 @@
 -- A condition, a statement and a program that is derived is read. Assumes nothing.
 use Rattle.std.proofs.Common.{◌≡◌, ℕ, zero, suc, ◌+◌, ◌-◌, ◌≤◌, Bool, true, false, eqb, List, [], ◌∷◌, sym, refl, ap, ◌∙◌, arith}
+use Rattle.std.proofs.lemmas.Bool.{false_from_ne_true, or_parts}
 use Rattle.script.specs.declared.types.«Type».{«Type» as Ty}
 use Rattle.script.specs.declared.types.Name.{Name}
 use Rattle.script.specs.declared.types.Declarator.{Declarator}
@@ -16,7 +17,6 @@ use Rattle.grammar.specs.Combine.{kind, kind_at, is, out_done, Parser, next, aft
 use Rattle.grammar.specs.Parse.{is_name, is_type, declares, compares, joins, begins, name_of, type_of, join_of, Thing, thing_expr, thing_cond, Found, found, typed, declarator, level, actuals, operand, expression, tested, joined, holds, condition_by, negation, condition, ended, declaration, assignment, otherwise, tests, statement_by, statement, statements, formals, function, program}
 use Rattle.grammar.proofs.Symbols.{joins_sharp, only, comparison_is, comparison_tests}
 use Rattle.grammar.proofs.Local.{on_else}
-use Rattle.grammar.proofs.Reader.{or_left}
 use Rattle.grammar.proofs.Sound.{Functions, no_function, one_function, Whole}
 use Rattle.grammar.proofs.Complete.{Gives, after_is, from_is, take, skip, wanted, loop_go, loop_end, apart, cont, cont_c, lower_c, above_c, comparison_stops, heads, heads_c, headed, headed_c, group_in, type_is, level_by, Lists, lists_last, lists_more, listed_none, listed_some, negation_gives, comp, all_actuals}
 
@@ -94,7 +94,7 @@ reach_end m n d ts c rest r st =
 mutual
   pub conds : (m : Bool) {n d : ℕ} {ts : List Tok} {c : Cond} {rest : List Tok} → Condition n d ts c rest → cont_c n (kind_at rest) ≡ false → Gives (λ g. level_in m n d g) ts (found m c) rest
   conds m (rule.compared {d = d} {t = t} {ts = ts} {mid = mid} {rest = rest} {e = e} {f = f} o x i y) st =
-      compared_gives m d t ts mid rest e f o (apart heads (mark sign.Not) (kind_at ts) refl (headed x)) i (comp true x (ap (λ s. cont 3 (kind s)) i.symbol ∙ comparison_stops o)) (comp false y (or_left (cont 3 (kind_at rest)) _ st))
+      compared_gives m d t ts mid rest e f o (apart heads (mark sign.Not) (kind_at ts) refl (headed x)) i (comp true x (ap (λ s. cont 3 (kind s)) i.symbol ∙ comparison_stops o)) (comp false y (or_parts (cont 3 (kind_at rest)) _ st).0)
   conds m (rule.negated {d = d} {t = t} {ts = ts} {rest = rest} {c = c} i x) st = negated_gives m d t ts rest c i (conds true x st)
   conds m (rule.group {d = d} {t = t} {u = u} {ts = ts} {rest = rest} {c = c} i x k) st = group_gives m d t u ts rest c i k (headed_c x) (conds false x (ap (λ s. cont_c 2 (kind s)) k.symbol))
   conds m (rule.looser {k = n} {d = d} {ts = ts} {rest = rest} {c = c} l x) st =
@@ -270,11 +270,7 @@ begins_at (rule.return i e c) = ap (λ s. begins (kind s)) i.symbol
 begins_at (rule.block i b c) = ap (λ s. begins (kind s)) i.symbol
 
 no_else : (ts : List Tok) → (first ts ≡ keyword word.Else → ⊥) → is (keyword word.Else) (kind_at ts) ≡ false
-no_else ts n = by (is (keyword word.Else) (kind_at ts)) refl
-  where
-    by : (b : Bool) → is (keyword word.Else) (kind_at ts) ≡ b → b ≡ false
-    by true e = absurd (n (only (keyword word.Else) (first ts) refl e))
-    by false e = refl
+no_else ts n = false_from_ne_true _ (λ e. n (only (keyword word.Else) (first ts) refl e))
 
 block_gives : (d : ℕ) (t u : Tok) (ts rest : List Tok) (b : Stmts) → Is d (mark sign.LeftBrace) t → Rows begins (λ g. statement g (suc d)) tree.end tree.next ts b (u ∷ rest)
     → Is d (mark sign.RightBrace) u → Gives (λ g. statement g d) (t ∷ ts) (tree.block t.at b) rest

@@ -45,7 +45,7 @@ fin = record { symbol = end; at = 0; deepest = 0; counted = false }
 reads_to : (G : ℕ) (ts : List Tok) (p : Program) → program G ts ≡ out_done p (fin ∷ []) → Programs ts p
 reads_to G ts p e = closes (derived ts p (fin ∷ []) G e).all refl refl
 
-not_read : {X : Type 0} {o : Out X} {x : X} {z : List Tok} → Fails o → o ≡ out_done x z → ⊥
+pub not_read : {X : Type 0} {o : Out X} {x : X} {z : List Tok} → Fails o → o ≡ out_done x z → ⊥
 not_read {x = x} {z = z} (fails {rest = rest} {why = why} f) e = let q : out_done x z ≡ out_fail rest why = sym e ∙ f in absurd (grind arith)
 
 -- fronts
@@ -59,10 +59,6 @@ eaten_eq (bite {t = t} n c e) = ap (λ ts. t ∷ ts) (eaten_eq e)
 
 one_way : {rest pre mid ts : List Tok} → Eaten rest pre ts → Eaten rest mid ts → pre ≡ mid
 one_way {rest = rest} {pre = pre} {mid = mid} a b = append_cancel_right pre mid rest (sym (eaten_eq a) ∙ eaten_eq b)
-
-same_self : (ts : List Tok) → SameTokens ts ts
-same_self [] = refusal.none
-same_self (t ∷ ts) = refusal.more refl refl (same_self ts)
 
 depths_self : (ts : List Tok) → SameDepths ts ts
 depths_self [] = refusal.none
@@ -119,10 +115,6 @@ deepened : (pre : List Tok) (t : Tok) {like : List Tok} (z : List Tok) → SameD
 deepened [] t z (refusal.more {u = u} e i d refusal.none) = record { v = u; symbol = e; deepest = d; front = empty }
 deepened (s ∷ pre) t z (refusal.more {u = u} e i k r) = let d = deepened pre t z r in record { v = d.v; symbol = d.symbol; deepest = d.deepest; front = token (record { symbol = e; at = i; self = λ k. never (sym k) }) d.front }
 
-no_over : {t u : Tok} {why : Why} → Over t u why → why ≡ why_bad → ⊥
-no_over (too_deep s i) e = absurd (grind arith)
-no_over (too_many s i d k f) e = absurd (grind arith)
-
 -- no program begins with a refused token, whatever the limits of those before it
 dead_bad : (g : ℕ) (ts pre rest : List Tok) → program g ts ≡ out_fail rest why_bad → Eaten rest pre ts → (z all : List Tok) (p : Program) → Front false z pre all → kind_at z ≡ kind_at rest → Programs all p → ⊥
 dead_bad g ts pre rest e i z all p f k w = by (subst (Lo not_end (program G) ts false) e ((program_good g G (omega arith)).lo ts)) refl i k
@@ -141,7 +133,8 @@ dead_bad g ts pre rest e i z all p f k w = by (subst (Lo not_end (program G) ts 
     by (bad1 t mid c x j h m) y i k =
         let n : pre ≡ t ∷ mid = one_way i j in
         not_read (h z all (subst (λ us. Front false z us all) n f) k) (r.is G (omega arith))
-    by (over mid c x u j o h m) y i k = no_over o y
+    by (over mid c x u j (too_deep s a) h m) y i k = absurd (grind arith)
+    by (over mid c x u j (too_many s a b n l) h m) y i k = absurd (grind arith)
     by gas y i k = absurd (grind arith)
 
 dead_deep : (g : ℕ) (ts pre : List Tok) (t : Tok) (rest : List Tok) → program g ts ≡ out_fail (t ∷ rest) why_deep → Eaten (t ∷ rest) pre ts → (v : Tok) (z all : List Tok) (p : Program)
@@ -188,10 +181,6 @@ pub record Refused (ts rest : List Tok) (why : Why) : Type 0 where
 alive : (G : ℕ) (pre c all : List Tok) (p : Program) → all ≡ pre ++ c → program G all ≡ out_done p (fin ∷ []) → BeginsWithin pre
 alive G pre c all p q e = record { like = pre; same = depths_self pre; rest = c; program = p; is = subst (λ ts. Programs ts p) q (reads_to G all p e) }
 
--- the last token of pre and u, and a completion
-last_first : (pre : List Tok) (u : Tok) (c : List Tok) → pre ++ (u ∷ c) ≡ (pre ++ (u ∷ [])) ++ c
-last_first pre u c = sym (append_assoc pre (u ∷ []) c)
-
 refused_by : (G : ℕ) (ts rest : List Tok) (why : Why) → (why ≡ why_gas → ⊥) → Alive false no_kind not_end (program G) → Lo not_end (program G) ts false (out_fail rest why) → Refused ts rest why
 refused_by G ts rest why n a (bad0 h) = record { pre = []; eaten = nothing; live = alive G [] (a.c ++ (fin ∷ [])) (a.c ++ (fin ∷ [])) a.x refl (a.reads (fin ∷ []) refl); told = tt }
 refused_by G ts rest why n a (bad1 t pre c x e h g) =
@@ -210,7 +199,7 @@ refused_by G ts rest why n a (over {t = t} {rest = more} pre c x u e o h g) = by
     is = g (fin ∷ []) all (exact_front pre (u ∷ (c ++ (fin ∷ []))) true) refl
 
     whole : Programs ((pre ++ (u ∷ [])) ++ (c ++ (fin ∷ []))) x
-    whole = subst (λ ts. Programs ts x) (last_first pre u (c ++ (fin ∷ []))) (reads_to G all x is)
+    whole = subst (λ ts. Programs ts x) (sym (append_assoc pre (u ∷ []) (c ++ (fin ∷ [])))) (reads_to G all x is)
 
     by : {why : Why} → Over t u why → Refused ts (t ∷ more) why
     by (too_deep s i) =

@@ -1,5 +1,6 @@
 -- The reader of statements and programs looks no further, and can be completed. Assumes nothing.
-use Rattle.std.proofs.Common.{ℕ, zero, suc, ◌+◌, ◌<◌, Bool, true, false, cond, List, [], ◌∷◌, refl, arith}
+use Rattle.std.proofs.Common.{ℕ, zero, suc, ◌+◌, ◌<◌, Bool, true, false, ◌||◌, List, [], ◌∷◌, refl, arith}
+use Rattle.std.proofs.lemmas.Bool.{or_parts}
 use Rattle.script.specs.declared.types.Name.{Name}
 use Rattle.script.specs.declared.types.Declarator.{Declarator}
 use Rattle.script.specs.Tree as tree
@@ -11,17 +12,17 @@ use Rattle.grammar.specs.Combine.{is, Parser, after, ret, bad, on, want}
 use Rattle.grammar.specs.Parse.{is_name, is_type, declares, begins, name_of, type_of, typed, declarator, actuals, expression, ended, declaration, assignment, otherwise, tests, statement_by, statements_by, statement, formals, body, function, program}
 use Rattle.grammar.proofs.Symbols.{never}
 use Rattle.grammar.proofs.Local.{Alive, Less, no_kind, ret_lo, bad_lo, ret_alive, on_lo, on_alive, after_alive, Good, less_is, less_refl, less_none, seq, seq_from, map, gas_good, weak, want_lo, want_alive, wants, then_mark, closing, opt_alive, many_good, not_end, less_end, ends_lo, ends_alive}
-use Rattle.grammar.proofs.Reader.{ends_expression, ends_test, or_left, listed_good, actuals_good, expression_alive, expression_good, condition_good}
+use Rattle.grammar.proofs.Reader.{ends_expression, ends_test, listed_good, actuals_good, expression_alive, expression_good, condition_good}
 
 -- the kinds that go on with a statement and with statements
 abbrev pub ends_statement : ℕ → Bool
 ends_statement k = is (keyword word.Else) k
 
 abbrev pub ends_statements : ℕ → Bool
-ends_statements k = cond (begins k) true (is (keyword word.Else) k)
+ends_statements k = begins k || is (keyword word.Else) k
 
 sl : Less begins ends_statements
-sl = record { so = λ k e. or_left (begins k) _ e }
+sl = record { so = λ k e. (or_parts (begins k) _ e).0 }
 
 ql : Less ends_statement ends_statements
 ql = less_is ends_statements (keyword word.Else) refl

@@ -44,41 +44,35 @@ after_ok {X = X} {K = K} {L = L} p f ts h k = by (p ts) h
 
 from_ok : {X Y : Type 0} {K : X → List Tok → Type 0} {L : Y → List Tok → Type 0} (p : Parser X) (f : ℕ → X → Parser Y) (ts : List Tok) → Ok K (p ts)
     → ((x : X) (rest : List Tok) → K x rest → Ok L (f (offset ts) x rest)) → Ok L (from p f ts)
-unfolding from
-from_ok {X = X} {K = K} {L = L} p f ts h k = by (p ts) h
+unfolding after from
+from_ok p f ts h k = after_ok p (f (offset ts)) ts h k
+
+-- a token is taken where it fits, and left where it does not pass
+token_ok : {X : Type 0} {K : X → List Tok → Type 0} (d : ℕ) (test : ℕ → Bool) (p : Item → Parser X) (q : Parser X) (t : Tok) (us : List Tok) → (Fits d test t → Ok K (p (bare t) us))
+    → (test (kind t.symbol) ≡ false → Ok K (q (t ∷ us))) → Ok K (on d test p q (t ∷ us))
+unfolding on
+token_ok {K = K} d test p q t us h k = by (test (kind t.symbol)) refl (ltb t.deepest d) refl t.counted refl
   where
-    by : (o : Out X) → Ok K o → Ok L (next o (f (offset ts)))
-    by (out_done x rest) (ok j) = k x rest j
-    by (out_fail rest n) no = no
+    by : (b : Bool) → test (kind t.symbol) ≡ b → (c : Bool) → ltb t.deepest d ≡ c → (e : Bool) → t.counted ≡ e
+        → Ok K (cond b (cond c (out_fail (t ∷ us) why_deep) (cond e (p (bare t) us) (out_fail (t ∷ us) why_many))) (q (t ∷ us)))
+    by true e true i c j = no
+    by true e false i true j = h (record { passes = e; depth = ltb-false _ _ i; counted = j })
+    by true e false i false j = no
+    by false e true i c j = k e
+    by false e false i c j = k e
 
 -- a first token: the derivation begins here
 first_ok : {X : Type 0} {R : Rel X} (d : ℕ) (test : ℕ → Bool) (p : Item → Parser X) (q : Parser X) → ((t : Tok) (us : List Tok) → Fits d test t → Ok (R (t ∷ us)) (p (bare t) us)) → Reads R q → Reads R (on d test p q)
 unfolding on
 first_ok d test p q h k [] = k []
-first_ok {R = R} d test p q h k (t ∷ us) = by (test (kind t.symbol)) refl (ltb t.deepest d) refl t.counted refl
-  where
-    by : (b : Bool) → test (kind t.symbol) ≡ b → (c : Bool) → ltb t.deepest d ≡ c → (e : Bool) → t.counted ≡ e
-        → Ok (R (t ∷ us)) (cond b (cond c (out_fail (t ∷ us) why_deep) (cond e (p (bare t) us) (out_fail (t ∷ us) why_many))) (q (t ∷ us)))
-    by true e true i c j = no
-    by true e false i true j = h t us (record { passes = e; depth = ltb-false _ _ i; counted = j })
-    by true e false i false j = no
-    by false e true i c j = k (t ∷ us)
-    by false e false i c j = k (t ∷ us)
+first_ok d test p q h k (t ∷ us) = token_ok d test p q t us (h t us) (λ e. k (t ∷ us))
 
 -- a later token: M is what has been derived so far
 on_ok : {X : Type 0} {K : X → List Tok → Type 0} (M : List Tok → Type 0) (d : ℕ) (test : ℕ → Bool) (p : Item → Parser X) (q : Parser X) (ts : List Tok) → Sharp test → M ts
     → ((t : Tok) (us : List Tok) → M (t ∷ us) → Fits d test t → Ok K (p (bare t) us)) → (test (kind_at ts) ≡ false → Ok K (q ts)) → Ok K (on d test p q ts)
 unfolding on
 on_ok M d test p q [] z m h k = k z.0
-on_ok {K = K} M d test p q (t ∷ us) z m h k = by (test (kind t.symbol)) refl (ltb t.deepest d) refl t.counted refl
-  where
-    by : (b : Bool) → test (kind t.symbol) ≡ b → (c : Bool) → ltb t.deepest d ≡ c → (e : Bool) → t.counted ≡ e
-        → Ok K (cond b (cond c (out_fail (t ∷ us) why_deep) (cond e (p (bare t) us) (out_fail (t ∷ us) why_many))) (q (t ∷ us)))
-    by true e true i c j = no
-    by true e false i true j = h t us m (record { passes = e; depth = ltb-false _ _ i; counted = j })
-    by true e false i false j = no
-    by false e true i c j = k e
-    by false e false i c j = k e
+on_ok M d test p q (t ∷ us) z m h k = token_ok d test p q t us (h t us m) k
 
 -- what a token is that passes
 as_is : {d : ℕ} {t : Tok} (s : Symbol) → definite s ≡ true → Fits d (is s) t → Is d s t
