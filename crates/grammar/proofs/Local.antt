@@ -1,6 +1,6 @@
 -- A reader looks no further than the token at which it stops, and what it has read can be completed. Assumes nothing.
 use Rattle.std.proofs.Common.{◌≡◌, ℕ, zero, suc, ◌<◌, Bool, true, false, cond, eqb, ltb, ◌⊎◌, List, [], ◌∷◌, ◌++◌, sym, refl, ap, ◌∙◌, inl, inr, append_assoc, arith, le-ltb, eq-eqb, ne_eqb, eqb-true, not}
-use Rattle.std.proofs.lemmas.Bool.{not-false}
+use Rattle.std.proofs.lemmas.Bool.{not-false, cond-true, cond-false}
 use Rattle.tokens.specs.declared.types.Mark.{Mark}
 use Rattle.tokens.specs.declared.types.Mark.TheVariants as sign
 use Rattle.tokens.specs.Spelling.{Symbol, mark, Item, item}
@@ -521,27 +521,21 @@ pub loop_good : {X : Type 0} {S Q : ℕ → Bool} (d g G : ℕ) → g < G → (t
 loop_good d g G lt test {f = f} {F = F} z l m h x = record { lo = loop_lo d test F {f = f} z l m h g G lt x; alive = loop_alive d test F G x (omega arith) z l less_none }
 
 -- peek and many
-peek_yes : {X : Type 0} (test : ℕ → Bool) (P R : Parser X) (ts : List Tok) → test (kind_at ts) ≡ true → peek test P R ts ≡ P ts
-unfolding peek
-peek_yes test P R ts h = rw h refl
-
-peek_no : {X : Type 0} (test : ℕ → Bool) (P R : Parser X) (ts : List Tok) → test (kind_at ts) ≡ false → peek test P R ts ≡ R ts
-unfolding peek
-peek_no test P R ts h = rw h refl
-
 module _ {X : Type 0} {Q : ℕ → Bool} (test : ℕ → Bool) (P R : Parser X) where
   goes_in : {ts : List Tok} {o : Out X} → test (kind_at ts) ≡ true → Lo Q P ts true o → Lo Q (peek test P R) ts true o
-  goes_in h = along (λ z e. peek_yes test P R z (ap test e ∙ h)) never
+  unfolding peek
+  goes_in h = along (λ z e. cond-true _ _ _ (ap test e ∙ h)) never
 
   goes_by : {ts : List Tok} (x : X) → test (kind_at ts) ≡ false → Less test Q → ((z : List Tok) → R z ≡ out_done x z) → Lo Q (peek test P R) ts false (out_done x ts)
-  goes_by x h l f = done0 (λ z n. peek_no test P R z (stays h l z n) ∙ f z)
+  unfolding peek
+  goes_by x h l f = done0 (λ z n. cond-false _ _ _ (stays h l z n) ∙ f z)
 
 module _ {X Y : Type 0} {Q : ℕ → Bool} (test : ℕ → Bool) (P : Parser X) (none : Y) (more : X → Y → Y) where
   pub many_alive : {T : ℕ → Bool} (g : ℕ) → 0 < g → Less test Q → Less T Q → Alive false T Q (many test P none more g)
-  unfolding many
+  unfolding many peek
   many_alive zero h l m = absurd (omega arith)
   many_alive (suc g) h l m =
-      record { c = []; x = none; at = 0; begins = λ e. never (sym e); reads = λ z q. peek_no test (after P (λ x. after (many test P none more g) (λ xs. ret (more x xs)))) (ret none) z (l.so _ q); first = λ z q. m.so _ q }
+      record { c = []; x = none; at = 0; begins = λ e. never (sym e); reads = λ z q. cond-false _ _ _ (l.so _ q); first = λ z q. m.so _ q }
 
   pub many_lo : {S : ℕ → Bool} {p : Parser X} → Less test Q → Less S Q → Good S true p P → (g G : ℕ) → g < G → (ts : List Tok) → Lo Q (many test P none more G) ts false (many test p none more g ts)
   unfolding many peek
@@ -584,25 +578,18 @@ not_end k = not (eqb k 0)
 pub less_end : (S : ℕ → Bool) → S 0 ≡ false → Less S not_end
 less_end S h = record { so = λ k e. ap S (eqb-true k 0 (not-false _ e)) ∙ h }
 
-ends_yes : {X : Type 0} (x : X) (z : List Tok) → eqb (kind_at z) 0 ≡ true → ends x z ≡ out_done x z
-unfolding ends
-ends_yes x z h = rw h refl
-
-ends_no : {X : Type 0} (x : X) (z : List Tok) → eqb (kind_at z) 0 ≡ false → ends x z ≡ out_fail z why_bad
-unfolding ends
-ends_no x z h = rw h refl
-
 pub ends_lo : {X : Type 0} (x : X) (ts : List Tok) → Lo not_end (ends x) ts false (ends x ts)
 unfolding ends
 ends_lo x ts = by (eqb (kind_at ts) 0) refl
   where
     by : (b : Bool) → eqb (kind_at ts) 0 ≡ b → Lo not_end (ends x) ts false (cond b (out_done x ts) (out_fail ts why_bad))
-    by true h = done0 (λ z n. ends_yes x z (near z n))
+    by true h = done0 (λ z n. cond-true _ _ _ (near z n))
       where
         near : (z : List Tok) → Near not_end ts z → eqb (kind_at z) 0 ≡ true
         near z (same e) = ap (λ k. eqb k 0) e ∙ h
         near z (stop e) = not-false _ e
-    by false h = bad0 (λ z e. fails (ends_no x z (ap (λ k. eqb k 0) e ∙ h)))
+    by false h = bad0 (λ z e. fails (cond-false _ _ _ (ap (λ k. eqb k 0) e ∙ h)))
 
 pub ends_alive : {X : Type 0} {S : ℕ → Bool} (x : X) → S 0 ≡ false → Alive false S not_end (ends x)
-ends_alive {S = S} x s = record { c = []; x = x; at = 0; begins = λ e. never (sym e); reads = λ z q. ends_yes x z (not-false _ q); first = λ z q. (less_end S s).so _ q }
+unfolding ends
+ends_alive {S = S} x s = record { c = []; x = x; at = 0; begins = λ e. never (sym e); reads = λ z q. cond-true _ _ _ (not-false _ q); first = λ z q. (less_end S s).so _ q }

@@ -1,5 +1,5 @@
 -- What the kind of a symbol tells about it. Assumes nothing.
-use Rattle.std.proofs.Common.{◌≡◌, ℕ, suc, Bool, true, false, cond, eqb, [], sym, refl, ap, ◌∙◌, true≢false, arith, ne_eqb, eqb-true}
+use Rattle.std.proofs.Common.{◌≡◌, ℕ, suc, Bool, true, false, cond, eqb, [], sym, refl, ap, ◌∙◌, true≢false, arith, eq-eqb, ne_eqb, eqb-true}
 use Rattle.script.specs.declared.types.Operator.{Operator}
 use Rattle.script.specs.declared.types.Operator.TheVariants as operator
 use Rattle.script.specs.declared.types.Comparison.{Comparison}
@@ -46,7 +46,7 @@ definite (name w) = false
 definite (constant n) = false
 definite (keyword k) = true
 definite (mark m) = true
-definite end = false
+definite end = true
 definite (trouble t) = false
 
 keyword_kind_lem : (k : Keyword) → decode (keyword_kind k) ≡ keyword k
@@ -96,26 +96,26 @@ decodes (trouble t) = refl
 same_code : (s u : Symbol) → is s (kind u) ≡ true → code u ≡ code s
 same_code s u e = sym (decodes u) ∙ ap decode (eqb-true _ _ e) ∙ decodes s
 
+definite_code : (u : Symbol) → definite (code u) ≡ definite u
+definite_code (name w) = refl
+definite_code (constant n) = refl
+definite_code (keyword k) = refl
+definite_code (mark m) = refl
+definite_code end = refl
+definite_code (trouble t) = refl
+
+code_itself : (u : Symbol) → definite u ≡ true → code u ≡ u
+code_itself (name w) d = never (sym d)
+code_itself (constant n) d = never (sym d)
+code_itself (keyword k) d = refl
+code_itself (mark m) d = refl
+code_itself end d = refl
+code_itself (trouble t) d = never (sym d)
+
 pub only : (s u : Symbol) → definite s ≡ true → is s (kind u) ≡ true → u ≡ s
-only s u d e = by s u d (same_code s u e)
-  where
-    by : (s u : Symbol) → definite s ≡ true → code u ≡ code s → u ≡ s
-    by (name w) u d e = never (sym d)
-    by (constant n) u d e = never (sym d)
-    by end u d e = never (sym d)
-    by (trouble t) u d e = never (sym d)
-    by (keyword k) (keyword j) d e = e
-    by (keyword k) (mark m) d e = e
-    by (keyword k) (name w) d e = never (sym (ap definite e))
-    by (keyword k) (constant n) d e = never (sym (ap definite e))
-    by (keyword k) end d e = never (sym (ap definite e))
-    by (keyword k) (trouble t) d e = never (sym (ap definite e))
-    by (mark k) (keyword j) d e = e
-    by (mark k) (mark m) d e = e
-    by (mark k) (name w) d e = never (sym (ap definite e))
-    by (mark k) (constant n) d e = never (sym (ap definite e))
-    by (mark k) end d e = never (sym (ap definite e))
-    by (mark k) (trouble t) d e = never (sym (ap definite e))
+only s u d e =
+    let q = same_code s u e in
+    sym (code_itself u (sym (definite_code u) ∙ ap definite q ∙ definite_code s ∙ d)) ∙ q ∙ code_itself s d
 
 pub a_name : (u : Symbol) → is_name (kind u) ≡ true → u ≡ name (spelling u)
 a_name u e = by u (same_code (name []) u e)
@@ -140,15 +140,7 @@ a_constant u e = by u (same_code (constant 0) u e)
     by (trouble t) e = absurd (grind arith)
 
 pub an_end : (u : Symbol) → kind u ≡ 0 → u ≡ end
-an_end u e = by u (sym (decodes u) ∙ ap decode e)
-  where
-    by : (u : Symbol) → code u ≡ end → u ≡ end
-    by (name w) e = absurd (grind arith)
-    by (constant n) e = absurd (grind arith)
-    by (keyword k) e = e
-    by (mark m) e = e
-    by end e = refl
-    by (trouble t) e = absurd (grind arith)
+an_end u e = only end u refl (eq-eqb (kind u) 0 e)
 
 pub a_type : (u : Symbol) → is_type (kind u) ≡ true → u ≡ keyword (type_word (type_of u))
 a_type u e = by (is (keyword word.Int) (kind u)) refl (is (keyword word.Ref) (kind u)) refl e
@@ -243,26 +235,10 @@ goes_on test h end e = sym e ∙ h.0
 goes_on test h (trouble t) e = sym e ∙ h.1
 
 pub mark_sharp : (m : Mark) → Sharp (is (mark m))
-mark_sharp sign.LeftParen = (refl, refl)
-mark_sharp sign.RightParen = (refl, refl)
-mark_sharp sign.LeftBrace = (refl, refl)
-mark_sharp sign.RightBrace = (refl, refl)
-mark_sharp sign.Comma = (refl, refl)
-mark_sharp sign.Semicolon = (refl, refl)
-mark_sharp sign.Assign = (refl, refl)
-mark_sharp sign.Plus = (refl, refl)
-mark_sharp sign.Minus = (refl, refl)
-mark_sharp sign.Star = (refl, refl)
-mark_sharp sign.Dot = (refl, refl)
-mark_sharp sign.Less = (refl, refl)
-mark_sharp sign.Greater = (refl, refl)
-mark_sharp sign.LessEqual = (refl, refl)
-mark_sharp sign.GreaterEqual = (refl, refl)
-mark_sharp sign.EqualEqual = (refl, refl)
-mark_sharp sign.NotEqual = (refl, refl)
-mark_sharp sign.Not = (refl, refl)
-mark_sharp sign.AndAnd = (refl, refl)
-mark_sharp sign.OrOr = (refl, refl)
+mark_sharp m = (ne_eqb _ _ (λ e. other end (ap decode e) refl), ne_eqb _ _ (λ e. other (trouble NoToken) (ap decode e) refl))
+  where
+    other : (s : Symbol) → s ≡ decode (mark_kind m) → final s ≡ true → ⊥
+    other s e f = never (sym f ∙ ap final (e ∙ mark_kind_lem m))
 
 -- what does not bind is of no level
 pub no_level : (n k : ℕ) → k ≡ 0 → eqb k (suc n) ≡ false
