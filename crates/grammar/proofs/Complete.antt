@@ -35,13 +35,17 @@ pub from_is : {X Y : Type 0} (p : Parser X) (f : ℕ → X → Parser Y) (ts : L
 unfolding from
 from_is p f ts e = ap (λ o. next o (f (offset ts))) e
 
+-- what its kind tells of a token that is this symbol
+pub at_kind : {A : Type 0} {d : ℕ} {s : Symbol} {t : Tok} (f : ℕ → A) → Is d s t → f (kind t.symbol) ≡ f (kind s)
+at_kind f i = ap (λ s. f (kind s)) i.symbol
+
 -- a token that is this symbol is taken where the test passes, and left where it does not
 pub take : {X : Type 0} {d : ℕ} {s : Symbol} (test : ℕ → Bool) (p : Item → Parser X) (q : Parser X) (t : Tok) (ts : List Tok) → test (kind s) ≡ true → Is d s t → on d test p q (t ∷ ts) ≡ p (item s t.at) ts
-take {d = d} test p q t ts e i = on_it d test p q t ts (ap (λ s. test (kind s)) i.symbol ∙ e) (le-ltb _ _ i.depth) i.counted ∙ ap (λ s. p (item s t.at) ts) i.symbol
+take {d = d} test p q t ts e i = on_it d test p q t ts (at_kind test i ∙ e) (le-ltb _ _ i.depth) i.counted ∙ ap (λ s. p (item s t.at) ts) i.symbol
 
 pub skip : {X : Type 0} {d : ℕ} {s : Symbol} (test : ℕ → Bool) (p : Item → Parser X) (q : Parser X) (t : Tok) (ts : List Tok) → test (kind s) ≡ false → Is d s t → on d test p q (t ∷ ts) ≡ q (t ∷ ts)
 unfolding on
-skip test p q t ts e i = rw (ap (λ s. test (kind s)) i.symbol ∙ e) refl
+skip test p q t ts e i = rw (at_kind test i ∙ e) refl
 
 pub wanted : {X : Type 0} {d : ℕ} (m : Mark) (q : Parser X) (t : Tok) (ts : List Tok) → Is d (mark m) t → want d m q (t ∷ ts) ≡ q ts
 wanted m q t ts i = take (is (mark m)) (λ i. q) bad t ts (eq-eqb (kind (mark m)) _ refl) i
@@ -114,20 +118,20 @@ pub no_type : (k : ℕ) → heads_c k ≡ true → is_type k ≡ false
 no_type k h = rw (apart heads_c (keyword word.Int) k refl h, apart heads_c (keyword word.Ref) k refl h) (apart heads_c (keyword word.Q) k refl h)
 
 pub headed : {n d : ℕ} {ts rest : List Tok} {e : Expr} → Expression n d ts e rest → heads (kind_at ts) ≡ true
-headed (rule.nil i) = ap (λ s. heads (kind s)) i.symbol
-headed (rule.number i) = ap (λ s. heads (kind s)) i.symbol
-headed (rule.variable i) = ap (λ s. heads (kind s)) i.is.symbol
-headed (rule.negated i x) = ap (λ s. heads (kind s)) i.symbol
-headed (rule.cast i u v x) = ap (λ s. heads (kind s)) i.symbol
-headed (rule.call i u a v) = ap (λ s. heads (kind s)) i.is.symbol
-headed (rule.group i x u) = ap (λ s. heads (kind s)) i.symbol
+headed (rule.nil i) = at_kind heads i
+headed (rule.number i) = at_kind heads i
+headed (rule.variable i) = at_kind heads i.is
+headed (rule.negated i x) = at_kind heads i
+headed (rule.cast i u v x) = at_kind heads i
+headed (rule.call i u a v) = at_kind heads i.is
+headed (rule.group i x u) = at_kind heads i
 headed (rule.looser l x) = headed x
 headed (rule.binary o b x i y) = headed x
 
 pub headed_c : {n d : ℕ} {ts rest : List Tok} {c : Cond} → Condition n d ts c rest → heads_c (kind_at ts) ≡ true
 headed_c {ts = ts} (rule.compared o x i y) = or_left (heads (kind_at ts)) _ (headed x)
-headed_c (rule.negated i x) = ap (λ s. heads_c (kind s)) i.symbol
-headed_c (rule.group i x u) = ap (λ s. heads_c (kind s)) i.symbol
+headed_c (rule.negated i x) = at_kind heads_c i
+headed_c (rule.group i x u) = at_kind heads_c i
 headed_c (rule.looser l x) = headed_c x
 headed_c (rule.both x i y) = headed_c x
 headed_c (rule.either x i y) = headed_c x
@@ -305,29 +309,29 @@ mutual
   comp m (rule.cast {d = d} {ty = ty} {t = t} {u = u} {v = v} {ts = ts} {rest = rest} {e = e} i j c x) st = cast_gives m d t u v ts ty e rest i j c (comp false x st)
   comp m (rule.call {d = d} {x = x} {t = t} {u = u} {ts = ts} {rest = rest} {es = es} i j a c) st = call_gives m d t u x ts es rest i j (all_actuals a c)
   comp false (rule.group {d = d} {t = t} {u = u} {ts = ts} {rest = rest} {e = e} i x c) st =
-      group_gives false d t u ts e rest i c (or_left (heads (kind_at ts)) _ (headed x)) (comp false x (ap (λ s. cont 3 (kind s)) c.symbol))
+      group_gives false d t u ts e rest i c (or_left (heads (kind_at ts)) _ (headed x)) (comp false x (at_kind (cont 3) c))
   comp true (rule.group {d = d} {t = t} {u = u} {ts = ts} {rest = rest} {e = e} i x c) st =
       group_gives true d t u ts (thing_expr e) rest i c (or_left (heads (kind_at ts)) _ (headed x))
-      (thing_gives (suc d) ts e (u ∷ rest) (apart heads (mark sign.Not) (kind_at ts) refl (headed x)) (ap (λ s. compares (kind s)) c.symbol) (comp true x (ap (λ s. cont 3 (kind s)) c.symbol)))
+      (thing_gives (suc d) ts e (u ∷ rest) (apart heads (mark sign.Not) (kind_at ts) refl (headed x)) (at_kind compares c) (comp true x (at_kind (cont 3) c)))
   comp m (rule.looser {k = n} {d = d} {ts = ts} {rest = rest} {e = e} l x) st =
       reach_end m n d ts e rest (reach_start m n d ts e rest (comp m x (lower n (kind_at rest) st))) (above n (kind_at rest) st)
   comp m (rule.binary {k = n} {d = d} {t = t} {ts = ts} {mid = mid} {rest = rest} {e = e} {f = f} o b x i y) st =
-      reach_end m n d ts _ rest (reach_grow m n d ts mid rest e f t o (reach m x (ap (λ s. cont n (kind s)) i.symbol ∙ belongs n o b)) b i (comp false y (lower n (kind_at rest) st))) (above n (kind_at rest) st)
+      reach_end m n d ts _ rest (reach_grow m n d ts mid rest e f t o (reach m x (at_kind (cont n) i ∙ belongs n o b)) b i (comp false y (lower n (kind_at rest) st))) (above n (kind_at rest) st)
 
   reach : (m : Bool) {n d : ℕ} {ts : List Tok} {e : Expr} {rest : List Tok} → Expression (suc n) d ts e rest → cont n (kind_at rest) ≡ false → Reach m n d ts e rest
   reach m (rule.looser {k = n} {d = d} {ts = ts} {rest = rest} {e = e} l x) st = reach_start m n d ts e rest (comp m x st)
   reach m (rule.binary {k = n} {d = d} {t = t} {ts = ts} {mid = mid} {rest = rest} {e = e} {f = f} o b x i y) st =
-      reach_grow m n d ts mid rest e f t o (reach m x (ap (λ s. cont n (kind s)) i.symbol ∙ belongs n o b)) b i (comp false y st)
+      reach_grow m n d ts mid rest e f t o (reach m x (at_kind (cont n) i ∙ belongs n o b)) b i (comp false y st)
 
   pub all_actuals : {d : ℕ} {ts : List Tok} {es : Exprs} {t : Tok} {rest : List Tok} → Actuals (suc d) ts es (t ∷ rest) → Is d (mark sign.RightParen) t → Gives (λ g. actuals d g (expression g (suc d))) ts es rest
   all_actuals {d = d} {t = t} {rest = rest} rule.no_actual c = listed_none d (λ g. expression g (suc d)) tree.none tree.more t rest c
   all_actuals {d = d} {ts = ts} {es = es} {t = t} {rest = rest} (rule.actuals a) c =
-      listed_some d (λ g. expression g (suc d)) tree.none tree.more t ts rest es (actuals_begin a) (some_actuals a (ap (λ s. cont 3 (kind s)) c.symbol) (ap (λ s. is (mark sign.Comma) (kind s)) c.symbol)) c
+      listed_some d (λ g. expression g (suc d)) tree.none tree.more t ts rest es (actuals_begin a) (some_actuals a (at_kind (cont 3) c) (at_kind (is (mark sign.Comma)) c)) c
 
   some_actuals : {d : ℕ} {ts : List Tok} {es : Exprs} {rest : List Tok} → SomeActuals d ts es rest → cont 3 (kind_at rest) ≡ false → is (mark sign.Comma) (kind_at rest) ≡ false
       → Lists d (λ g. expression g d) tree.none tree.more ts es rest
   some_actuals {d = d} (rule.last_actual x) st n = lists_last d (λ g. expression g d) tree.none tree.more (comp false x st) n
-  some_actuals {d = d} (rule.next_actual x c a) st n = lists_more d (λ g. expression g d) tree.none tree.more (comp false x (ap (λ s. cont 3 (kind s)) c.symbol)) c (some_actuals a st n)
+  some_actuals {d = d} (rule.next_actual x c a) st n = lists_more d (λ g. expression g d) tree.none tree.more (comp false x (at_kind (cont 3) c)) c (some_actuals a st n)
 
   actuals_begin : {d : ℕ} {ts : List Tok} {es : Exprs} {rest : List Tok} → SomeActuals d ts es rest → is (mark sign.RightParen) (kind_at ts) ≡ false
   actuals_begin {ts = ts} (rule.last_actual x) = apart heads (mark sign.RightParen) (kind_at ts) refl (headed x)

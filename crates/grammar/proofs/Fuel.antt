@@ -223,5 +223,5 @@ pub enough_gas : (g : ℕ) (ts rest : List Tok) → length ts < g → program g 
 enough_gas g ts rest l e = by (program g ts) (program_fed g ts l) e
   where
     by : (o : Out Program) → Fine false ts o → o ≡ out_fail rest why_gas → ⊥
-    by (out_done p r) f e = absurd (grind arith)
+    by (out_done p r) f e = cc
     by (out_fail r y) (halt h) e = h (cc)

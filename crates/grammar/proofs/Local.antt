@@ -476,6 +476,11 @@ weak h = record { lo = λ ts. looser (h.lo ts); alive = dull h.alive }
 pub wide : {X : Type 0} {S Q : ℕ → Bool} {w : Bool} {p P : Parser X} → Less S Q → Good S w p P → Good Q w p P
 wide l h = record { lo = λ ts. wider l (h.lo ts); alive = wide_alive l h.alive }
 
+-- a token that passes the test is taken, and p reads on; any other is left to q
+pub takes_lo : {X : Type 0} {Q : ℕ → Bool} {w v : Bool} (d : ℕ) (test : ℕ → Bool) {p P : Item → Parser X} {q R : Parser X} → Sharp test → (w ≡ false → Less test Q) → ((i : Item) → Good Q v (p i) (P i))
+    → ((ts : List Tok) → Lo Q R ts w (q ts)) → (ts : List Tok) → Lo Q (on d test P R) ts w (on d test p q ts)
+takes_lo d test {P = P} {R = R} z l h = on_lo d test P R z l (λ i. (h i).alive) (λ i. (weak (h i)).lo)
+
 -- a mark, and then p
 pub want_lo : {X : Type 0} {Q : ℕ → Bool} (d : ℕ) (m : Mark) {w : Bool} {p P : Parser X} → Good Q w p P → (ts : List Tok) → Lo Q (want d m P) ts true (want d m p ts)
 want_lo d m {p = p} {P = P} h ts = on_lo d (is (mark m)) (λ t. P) bad {p = λ t. p} {q = bad} (mark_sharp m) never (λ t. h.alive) (λ t ts. looser (h.lo ts)) bad_lo ts
@@ -569,7 +574,7 @@ module _ {X Y : Type 0} {S Q : ℕ → Bool} (d : ℕ) (P : Parser X) (none : Y)
   separated_good l m h (suc g) (suc G) lt =
       let k = separated_good l m h g G (omega arith) in
       seq (λ e. m) h (λ x. opt_alive d (is (mark sign.Comma)) _ _ (mark_sharp sign.Comma) (less_is Q (mark sign.Comma) l) m)
-      (λ x. on_lo d (is (mark sign.Comma)) _ _ (mark_sharp sign.Comma) (λ e. less_is Q (mark sign.Comma) l) (λ i. (map (more x) k).alive) (λ i. (weak (map (more x) k)).lo) (ret_lo (more x none)))
+      (λ x. takes_lo d (is (mark sign.Comma)) (mark_sharp sign.Comma) (λ e. less_is Q (mark sign.Comma) l) (λ i. map (more x) k) (ret_lo (more x none)))
 
 -- the end
 abbrev pub not_end : ℕ → Bool

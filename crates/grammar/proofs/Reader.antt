@@ -12,7 +12,7 @@ use Rattle.grammar.specs.Tokens.{Tok}
 use Rattle.grammar.specs.Combine.{kind, is, Parser, after, ret, bad, on, loop, listed}
 use Rattle.grammar.specs.Parse.{is_name, is_constant, is_type, binding, operates, compares, joining, joins, name_of, type_of, operator_of, comparison_of, join_of, Thing, thing_expr, thing_cond, Got, got, Found, found, binary, goes, level, actuals, named, cast_to, grouped, operand_by, operand, expression, compared, tested, negation_by, joined, holds, condition_by, negation, condition}
 use Rattle.grammar.proofs.Symbols.{never, mark_sharp, operates_sharp, joins_sharp, no_level}
-use Rattle.grammar.proofs.Local.{Lo, Alive, Less, no_kind, looser, ret_lo, bad_lo, ret_alive, on_lo, on_alive, else_alive, after_alive, from_alive, Good, less_is, less_refl, less_none, seq, seq_from, map, gas_good, weak, wide, wide_alive, wants, closing, loop_alive, loop_good, separated_good}
+use Rattle.grammar.proofs.Local.{Lo, Alive, Less, no_kind, looser, ret_lo, bad_lo, ret_alive, on_lo, takes_lo, ret_good, on_alive, else_alive, after_alive, from_alive, Good, less_is, less_refl, less_none, seq, seq_from, map, gas_good, weak, wide, wide_alive, wants, closing, loop_alive, loop_good, separated_good}
 
 -- the kinds that go on with an expression, with actuals, and with a thing
 abbrev pub ends_expression : ℕ → Bool
@@ -66,7 +66,7 @@ pub listed_good : {X Y : Type 0} {S Q : ℕ → Bool} (T : ℕ → Bool) (d g G 
 listed_good {S = S} T d g G lt p P y f r c l h =
     record {
       lo =
-          on_lo d (is (mark sign.RightParen)) _ _ (mark_sharp sign.RightParen) never (λ i. ret_alive y less_none) (λ i. ret_lo y) (closing d sign.RightParen (λ xs. xs) r (separated_good {S = S} {Q = T} (suc d) P y f c l h g G lt)).lo;
+          takes_lo d (is (mark sign.RightParen)) (mark_sharp sign.RightParen) never (λ i. ret_good y) (closing d sign.RightParen (λ xs. xs) r (separated_good {S = S} {Q = T} (suc d) P y f c l h g G lt)).lo;
       alive = on_alive d (is (mark sign.RightParen)) _ _ (mark sign.RightParen) refl refl (λ i. ret_alive y less_none);
     }
 
@@ -92,7 +92,7 @@ module _ (g G : ℕ) (lt : g < G) where
   named_good : (d : ℕ) (s S : Parser Expr) (x : Name) → Good ends_expression true s S → Good ends_expression false (named d g s x) (named d G S x)
   named_good d s S x h =
       record {
-        lo = on_lo d (is (mark sign.LeftParen)) _ _ (refl, refl) (λ e. less_is ends_expression (mark sign.LeftParen) refl) (λ i. call.alive) (λ i. (weak call).lo) (ret_lo (tree.variable x));
+        lo = takes_lo d (is (mark sign.LeftParen)) (refl, refl) (λ e. less_is ends_expression (mark sign.LeftParen) refl) (λ i. call) (ret_lo (tree.variable x));
         alive = on_alive d (is (mark sign.LeftParen)) _ _ (mark sign.LeftParen) refl refl (λ i. call.alive);
       }
     where
@@ -107,11 +107,11 @@ module _ (g G : ℕ) (lt : g < G) where
   operand_by_good m d p P s S q Q r h k j =
       record {
         lo =
-            on_lo d is_constant _ _ (refl, refl) never (λ i. ret_alive _ less_none) (λ i. ret_lo _)
-            (on_lo d is_name _ _ (refl, refl) never (λ i. (names i).alive) (λ i. (names i).lo)
-            (on_lo d (is (keyword word.Nil)) _ _ (refl, refl) never (λ i. ret_alive _ less_none) (λ i. ret_lo _)
-            (on_lo d (is (mark sign.Minus)) _ _ (refl, refl) never (λ i. (minus i).alive) (λ i. (weak (minus i)).lo)
-            (on_lo d (is (mark sign.LeftParen)) _ _ (refl, refl) never (λ i. (paren i).alive) (λ i. (weak (paren i)).lo)
+            takes_lo d is_constant (refl, refl) never (λ i. ret_good _)
+            (takes_lo d is_name (refl, refl) never names
+            (takes_lo d (is (keyword word.Nil)) (refl, refl) never (λ i. ret_good _)
+            (takes_lo d (is (mark sign.Minus)) (refl, refl) never minus
+            (takes_lo d (is (mark sign.LeftParen)) (refl, refl) never paren
             bad_lo))));
         alive = on_alive d is_constant _ _ (constant 0) refl refl (λ i. ret_alive _ less_none);
       }
@@ -129,7 +129,7 @@ module _ (g G : ℕ) (lt : g < G) where
       group = closing d sign.RightParen (λ x. x) r j
 
       paren : (i : Item) → Good ends_expression true (on d is_type (λ j. cast_to m d p i.at (type_of j.symbol)) (grouped d q)) (on d is_type (λ j. cast_to m d P i.at (type_of j.symbol)) (grouped d Q))
-      paren i = record { lo = on_lo d is_type _ _ (refl, refl) never (λ j. (casts i j).alive) (λ j. (weak (casts i j)).lo) group.lo; alive = on_alive d is_type _ _ (keyword word.Int) refl refl (λ j. (casts i j).alive) }
+      paren i = record { lo = takes_lo d is_type (refl, refl) never (λ j. casts i j) group.lo; alive = on_alive d is_type _ _ (keyword word.Int) refl refl (λ j. (casts i j).alive) }
 
   -- a condition may stand here, or must
   compared_alive : {v : Bool} (m : Bool) (d : ℕ) (S : Parser Expr) (e : Expr) (R : Parser (Found m)) → Alive v no_kind ends_expression S → Alive false ends_expression ends_test (compared m d S e R)
@@ -146,13 +146,13 @@ module _ (g G : ℕ) (lt : g < G) where
 
   tested_lo : (m : Bool) (d : ℕ) (s S : Parser Expr) → Good ends_expression true s S → (x : Thing) (ts : List Tok) → Lo ends_test (tested m d S x) ts false (tested m d s x ts)
   tested_lo m d s S h (thing_cond c) ts = ret_lo (found m c) ts
-  tested_lo true d s S h (thing_expr e) ts = looser (on_lo d compares _ _ {w = true} (refl, refl) never (λ i. (right_good true e h i).alive) (λ i. (weak (right_good true e h i)).lo) bad_lo ts)
-  tested_lo false d s S h (thing_expr e) ts = on_lo d compares _ _ (refl, refl) (λ i. compares_less) (λ i. (right_good false e h i).alive) (λ i. (weak (right_good false e h i)).lo) (ret_lo (thing_expr e)) ts
+  tested_lo true d s S h (thing_expr e) ts = looser (takes_lo {w = true} d compares (refl, refl) never (λ i. right_good true e h i) bad_lo ts)
+  tested_lo false d s S h (thing_expr e) ts = takes_lo d compares (refl, refl) (λ i. compares_less) (λ i. right_good false e h i) (ret_lo (thing_expr e)) ts
 
   negation_by_good : (m : Bool) (d : ℕ) (t T : Parser Thing) (s S : Parser Expr) (n N : Parser Cond) → Good ends_expression true t T → Good ends_expression true s S → Good ends_test true n N → Good ends_test true (negation_by m d t s n) (negation_by m d T S N)
   negation_by_good m d t T s S n N h k j =
       record {
-        lo = on_lo d (is (mark sign.Not)) _ _ (refl, refl) never (λ i. (nots i).alive) (λ i. (weak (nots i)).lo) (seq (λ e. et) h (tested_alive m d S k.alive) (tested_lo m d s S k)).lo;
+        lo = takes_lo d (is (mark sign.Not)) (refl, refl) never nots (seq (λ e. et) h (tested_alive m d S k.alive) (tested_lo m d s S k)).lo;
         alive = on_alive d (is (mark sign.Not)) _ _ (mark sign.Not) refl refl (λ i. (nots i).alive);
       }
     where
@@ -161,10 +161,6 @@ module _ (g G : ℕ) (lt : g < G) where
 
   joined_good : {p P : Parser Cond} → Good ends_test true p P → (c : Cond) (i : Item) → Good ends_test true (joined p c i) (joined P c i)
   joined_good h c i = map (λ e. join_of i.symbol i.at c e) h
-
-  condition_by_alive : (m : Bool) (d : ℕ) {S : ℕ → Bool} (A : Parser (Found m)) (P : Parser Cond) (n : ℕ) → Alive true S ends_test A → Alive true S ends_test (condition_by m d G A P n)
-  condition_by_alive m d A P zero a = a
-  condition_by_alive m d A P (suc n) a = after_alive (condition_by m d G A P n) _ (condition_by_alive m d A P n a) (holds_alive m _ (λ c. loop_alive d _ _ G c (omega arith) (joins_sharp n) (joins_less n) less_refl) _)
 
   condition_by_good : (m : Bool) (d : ℕ) (a A : Parser (Found m)) (p P : Parser Cond) (n : ℕ) → Good ends_test true a A → Good ends_test true p P → Good ends_test true (condition_by m d g a p n) (condition_by m d G A P n)
   condition_by_good m d a A p P zero h k = h

@@ -46,7 +46,7 @@ reads_to : (G : ℕ) (ts : List Tok) (p : Program) → program G ts ≡ out_done
 reads_to G ts p e = closes (derived ts p (fin ∷ []) G e).all refl refl
 
 pub not_read : {X : Type 0} {o : Out X} {x : X} {z : List Tok} → Fails o → o ≡ out_done x z → ⊥
-not_read {x = x} {z = z} (fails {rest = rest} {why = why} f) e = let q : out_done x z ≡ out_fail rest why = sym e ∙ f in absurd (grind arith)
+not_read (fails f) e = cc
 
 -- fronts
 pub eaten_front : {s : Bool} {rest pre ts : List Tok} → Eaten rest pre ts → Front s rest pre ts
@@ -133,9 +133,9 @@ dead_bad g ts pre rest e i z all p f k w = by (subst (Lo not_end (program G) ts 
     by (bad1 t mid c x j h m) y i k =
         let n : pre ≡ t ∷ mid = one_way i j in
         not_read (h z all (subst (λ us. Front false z us all) n f) k) (r.is G (omega arith))
-    by (over mid c x u j (too_deep s a) h m) y i k = absurd (grind arith)
-    by (over mid c x u j (too_many s a b n l) h m) y i k = absurd (grind arith)
-    by gas y i k = absurd (grind arith)
+    by (over mid c x u j (too_deep s a) h m) y i k = cc
+    by (over mid c x u j (too_many s a b n l) h m) y i k = cc
+    by gas y i k = cc
 
 dead_deep : (g : ℕ) (ts pre : List Tok) (t : Tok) (rest : List Tok) → program g ts ≡ out_fail (t ∷ rest) why_deep → Eaten (t ∷ rest) pre ts → (v : Tok) (z all : List Tok) (p : Program)
     → Front false (v ∷ z) pre all → v.symbol ≡ t.symbol → v.deepest ≡ t.deepest → Programs all p → ⊥
@@ -148,13 +148,13 @@ dead_deep g ts pre t rest e i v z all p f s d w = by (subst (Lo not_end (program
     G = r.gas + g + 2
 
     by : {out : List Tok} {why : Why} → Lo not_end (program G) ts false (out_fail out why) → out ≡ t ∷ rest → why ≡ why_deep → Eaten out pre ts → ⊥
-    by (bad0 h) q y i = absurd (grind arith)
-    by (bad1 a mid c x j h m) q y i = absurd (grind arith)
+    by (bad0 h) q y i = cc
+    by (bad1 a mid c x j h m) q y i = cc
     by (over {t = a} {rest = more} mid c x u j o h m) q y i =
         let n : pre ≡ mid = one_way i j in
         let k : t ≡ a = cc in
         not_read (h v z all (subst (λ us. Front false (v ∷ z) us all) n f) (s ∙ ap (λ t. t.symbol) k) (subst (λ y. Twin y a v) (sym y) (d ∙ ap (λ t. t.deepest) k))) (r.is G (omega arith))
-    by gas q y i = absurd (grind arith)
+    by gas q y i = cc
 
 pub refused_bad : (g : ℕ) (ts pre : List Tok) (t : Tok) (rest : List Tok) → program g ts ≡ out_fail (t ∷ rest) why_bad → Eaten (t ∷ rest) pre ts → BeginsProgram (pre ++ (t ∷ [])) → ⊥
 refused_bad g ts pre t rest e i b = let d = double pre t b.rest b.same in dead_bad g ts pre (t ∷ rest) e i (d.v ∷ b.rest) (b.like ++ b.rest) b.program d.front (ap kind d.symbol) b.is

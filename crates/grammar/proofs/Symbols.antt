@@ -122,22 +122,22 @@ a_name u e = by u (same_code (name []) u e)
   where
     by : (u : Symbol) → code u ≡ name [] → u ≡ name (spelling u)
     by (name w) e = refl
-    by (constant n) e = absurd (grind arith)
-    by (keyword k) e = absurd (grind arith)
-    by (mark m) e = absurd (grind arith)
-    by end e = absurd (grind arith)
-    by (trouble t) e = absurd (grind arith)
+    by (constant n) e = absurd cc
+    by (keyword k) e = absurd cc
+    by (mark m) e = absurd cc
+    by end e = absurd cc
+    by (trouble t) e = absurd cc
 
 pub a_constant : (u : Symbol) → is_constant (kind u) ≡ true → u ≡ constant (value_of u)
 a_constant u e = by u (same_code (constant 0) u e)
   where
     by : (u : Symbol) → code u ≡ constant 0 → u ≡ constant (value_of u)
-    by (name w) e = absurd (grind arith)
+    by (name w) e = absurd cc
     by (constant n) e = refl
-    by (keyword k) e = absurd (grind arith)
-    by (mark m) e = absurd (grind arith)
-    by end e = absurd (grind arith)
-    by (trouble t) e = absurd (grind arith)
+    by (keyword k) e = absurd cc
+    by (mark m) e = absurd cc
+    by end e = absurd cc
+    by (trouble t) e = absurd cc
 
 pub an_end : (u : Symbol) → kind u ≡ 0 → u ≡ end
 an_end u e = only end u refl (eq-eqb (kind u) 0 e)
