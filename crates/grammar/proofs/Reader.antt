@@ -12,7 +12,7 @@ use Rattle.grammar.specs.Tokens.{Tok}
 use Rattle.grammar.specs.Combine.{kind, is, Parser, after, ret, bad, on, loop, listed}
 use Rattle.grammar.specs.Parse.{is_name, is_constant, is_type, binding, operates, compares, joining, joins, name_of, type_of, operator_of, comparison_of, join_of, Thing, thing_expr, thing_cond, Got, got, Found, found, binary, goes, level, actuals, named, cast_to, grouped, operand_by, operand, expression, compared, tested, negation_by, joined, holds, condition_by, negation, condition}
 use Rattle.grammar.proofs.Symbols.{never, mark_sharp, operates_sharp, joins_sharp, no_level}
-use Rattle.grammar.proofs.Local.{Lo, Alive, Less, no_kind, looser, ret_lo, bad_lo, ret_alive, on_lo, takes_lo, ret_good, on_alive, else_alive, after_alive, from_alive, Good, less_is, less_refl, less_none, seq, seq_from, map, gas_good, weak, wide, wide_alive, wants, closing, loop_alive, loop_good, separated_good}
+use Rattle.grammar.proofs.Local.{Lo, Alive, Less, no_kind, looser, ret_lo, bad_lo, ret_alive, takes_lo, ret_good, on_alive, else_alive, after_alive, from_alive, Good, less_is, less_refl, less_none, seq, seq_from, map, gas_good, wide, wide_alive, wants, closing, loop_alive, loop_good, separated_good}
 
 -- the kinds that go on with an expression, with actuals, and with a thing
 abbrev pub ends_expression : ℕ → Bool

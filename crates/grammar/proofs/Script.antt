@@ -11,7 +11,7 @@ use Rattle.tokens.specs.Spelling.{name, keyword, mark, Item}
 use Rattle.grammar.specs.Combine.{is, Parser, after, ret, bad, on, want}
 use Rattle.grammar.specs.Parse.{is_name, is_type, declares, begins, name_of, type_of, typed, declarator, actuals, expression, ended, declaration, assignment, otherwise, tests, statement_by, statements_by, statement, formals, body, function, program}
 use Rattle.grammar.proofs.Symbols.{never}
-use Rattle.grammar.proofs.Local.{Alive, Less, no_kind, ret_lo, bad_lo, ret_alive, on_lo, takes_lo, ret_good, on_alive, after_alive, Good, less_is, less_refl, less_none, seq, seq_from, map, gas_good, weak, want_lo, want_alive, wants, then_mark, closing, opt_alive, many_good, not_end, less_end, ends_lo, ends_alive}
+use Rattle.grammar.proofs.Local.{Alive, Less, no_kind, ret_lo, bad_lo, ret_alive, takes_lo, ret_good, on_alive, after_alive, Good, less_is, less_refl, less_none, seq, seq_from, map, gas_good, want_lo, want_alive, wants, then_mark, closing, opt_alive, many_good, not_end, less_end, ends_lo, ends_alive}
 use Rattle.grammar.proofs.Reader.{ends_expression, ends_test, listed_good, actuals_good, expression_alive, expression_good, condition_good}
 
 -- the kinds that go on with a statement and with statements
