@@ -191,8 +191,12 @@ ret_lo x ts = done0 (λ z n. refl)
 pub bad_lo : {X : Type 0} {Q : ℕ → Bool} {w : Bool} (ts : List Tok) → Lo {X = X} Q bad ts w (out_fail ts why_bad)
 bad_lo ts = bad0 (λ z e. fails refl)
 
+-- no token is needed for x to be read
+empty_alive : {X : Type 0} {S Q : ℕ → Bool} {P : Parser X} (x : X) → ((z : List Tok) → Q (kind_at z) ≡ false → P z ≡ out_done x z) → Less S Q → Alive false S Q P
+empty_alive x r l = record { c = []; x = x; at = 0; begins = λ e. never (sym e); reads = r; first = λ z q. l.so _ q }
+
 pub ret_alive : {X : Type 0} {S Q : ℕ → Bool} (x : X) → Less S Q → Alive false S Q (ret x)
-ret_alive x l = record { c = []; x = x; at = 0; begins = λ e. never (sym e); reads = λ z q. refl; first = λ z q. l.so _ q }
+ret_alive x l = empty_alive x (λ z q. refl) l
 
 -- on
 pub on_else : {X : Type 0} (d : ℕ) (test : ℕ → Bool) (p : Item → Parser X) (q : Parser X) (ts : List Tok) → Sharp test → test (kind_at ts) ≡ false → on d test p q ts ≡ q ts
@@ -501,7 +505,7 @@ pub closing : {X Y : Type 0} {S Q : ℕ → Bool} {w : Bool} {p P : Parser X} (d
 closing d m f s h = then_mark d m s h (λ x. ret_good (f x))
 
 pub opt_alive : {X : Type 0} {S Q : ℕ → Bool} (d : ℕ) (test : ℕ → Bool) (P : Item → Parser X) (x : X) → Sharp test → Less test Q → Less S Q → Alive false S Q (on d test P (ret x))
-opt_alive d test P x z l m = record { c = []; x = x; at = 0; begins = λ e. never (sym e); reads = λ z₁ q. on_else d test P (ret x) z₁ z (l.so _ q); first = λ z₁ q. m.so _ q }
+opt_alive d test P x sharp l m = empty_alive x (λ z q. on_else d test P (ret x) z sharp (l.so _ q)) m
 
 -- loop
 module _ {X : Type 0} {Q : ℕ → Bool} (d : ℕ) (test : ℕ → Bool) (F : X → Item → Parser X) where
@@ -539,8 +543,7 @@ module _ {X Y : Type 0} {Q : ℕ → Bool} (test : ℕ → Bool) (P : Parser X) 
   pub many_alive : {T : ℕ → Bool} (g : ℕ) → 0 < g → Less test Q → Less T Q → Alive false T Q (many test P none more g)
   unfolding many peek
   many_alive zero h l m = absurd (omega arith)
-  many_alive (suc g) h l m =
-      record { c = []; x = none; at = 0; begins = λ e. never (sym e); reads = λ z q. cond-false _ _ _ (l.so _ q); first = λ z q. m.so _ q }
+  many_alive (suc g) h l m = empty_alive none (λ z q. cond-false _ _ _ (l.so _ q)) m
 
   pub many_lo : {S : ℕ → Bool} {p : Parser X} → Less test Q → Less S Q → Good S true p P → (g G : ℕ) → g < G → (ts : List Tok) → Lo Q (many test P none more G) ts false (many test p none more g ts)
   unfolding many peek
@@ -597,4 +600,4 @@ ends_lo x ts = by (eqb (kind_at ts) 0) refl
 
 pub ends_alive : {X : Type 0} {S : ℕ → Bool} (x : X) → S 0 ≡ false → Alive false S not_end (ends x)
 unfolding ends
-ends_alive {S = S} x s = record { c = []; x = x; at = 0; begins = λ e. never (sym e); reads = λ z q. cond-true _ _ _ (not-false _ q); first = λ z q. (less_end S s).so _ q }
+ends_alive {S = S} x s = empty_alive x (λ z q. cond-true _ _ _ (not-false _ q)) (less_end S s)

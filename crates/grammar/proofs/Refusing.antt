@@ -115,9 +115,13 @@ deepened : (pre : List Tok) (t : Tok) {like : List Tok} (z : List Tok) → SameD
 deepened [] t z (refusal.more {u = u} e i d refusal.none) = record { v = u; symbol = e; deepest = d; front = empty }
 deepened (s ∷ pre) t z (refusal.more {u = u} e i k r) = let d = deepened pre t z r in record { v = d.v; symbol = d.symbol; deepest = d.deepest; front = token (record { symbol = e; at = i; self = λ k. never (sym k) }) d.front }
 
+-- what an outcome says of reading with more gas
+more_gas : (g G : ℕ) → g + 1 < G → {ts : List Tok} {o : Out Program} → program g ts ≡ o → Lo not_end (program G) ts false o
+more_gas g G l {ts = ts} e = subst (Lo not_end (program G) ts false) e ((program_good g G l).lo ts)
+
 -- no program begins with a refused token, whatever the limits of those before it
 dead_bad : (g : ℕ) (ts pre rest : List Tok) → program g ts ≡ out_fail rest why_bad → Eaten rest pre ts → (z all : List Tok) (p : Program) → Front false z pre all → kind_at z ≡ kind_at rest → Programs all p → ⊥
-dead_bad g ts pre rest e i z all p f k w = by (subst (Lo not_end (program G) ts false) e ((program_good g G (omega arith)).lo ts)) refl i k
+dead_bad g ts pre rest e i z all p f k w = by (more_gas g G (omega arith) e) refl i k
   where
     r : Gives (λ g. program g) all p (read w).rest
     r = (read w).gives
@@ -139,7 +143,7 @@ dead_bad g ts pre rest e i z all p f k w = by (subst (Lo not_end (program G) ts 
 
 dead_deep : (g : ℕ) (ts pre : List Tok) (t : Tok) (rest : List Tok) → program g ts ≡ out_fail (t ∷ rest) why_deep → Eaten (t ∷ rest) pre ts → (v : Tok) (z all : List Tok) (p : Program)
     → Front false (v ∷ z) pre all → v.symbol ≡ t.symbol → v.deepest ≡ t.deepest → Programs all p → ⊥
-dead_deep g ts pre t rest e i v z all p f s d w = by (subst (Lo not_end (program G) ts false) e ((program_good g G (omega arith)).lo ts)) refl refl i
+dead_deep g ts pre t rest e i v z all p f s d w = by (more_gas g G (omega arith) e) refl refl i
   where
     r : Gives (λ g. program g) all p (read w).rest
     r = (read w).gives
@@ -214,7 +218,7 @@ refused_by G ts rest why n a (over {t = t} {rest = more} pre c x u e o h g) = by
 refused_by G ts rest why n a gas = absurd (n refl)
 
 pub refused : (g : ℕ) (ts rest : List Tok) (why : Why) → (why ≡ why_gas → ⊥) → program g ts ≡ out_fail rest why → Refused ts rest why
-refused g ts rest why n e = let h = program_good g (g + 2) (omega arith) in refused_by (g + 2) ts rest why n h.alive (subst (Lo not_end (program (g + 2)) ts false) e (h.lo ts))
+refused g ts rest why n e = refused_by (g + 2) ts rest why n (program_good g (g + 2) (omega arith)).alive (more_gas g (g + 2) (omega arith) e)
 
 -- with more gas the outcome is the same
 twin_self : {t u : Tok} {why : Why} → Over t u why → Twin why t t
@@ -222,7 +226,7 @@ twin_self (too_deep s i) = refl
 twin_self (too_many s i d k f) = refl
 
 pub fails_more : (g G : ℕ) → g + 1 < G → (ts rest : List Tok) (why : Why) → (why ≡ why_gas → ⊥) → program g ts ≡ out_fail rest why → Fails (program G ts)
-fails_more g G l ts rest why n e = by n (subst (Lo not_end (program G) ts false) e ((program_good g G l).lo ts))
+fails_more g G l ts rest why n e = by n (more_gas g G l e)
   where
     by : {rest : List Tok} {why : Why} → (why ≡ why_gas → ⊥) → Lo not_end (program G) ts false (out_fail rest why) → Fails (program G ts)
     by n (bad0 h) = h ts refl
@@ -231,7 +235,7 @@ fails_more g G l ts rest why n e = by n (subst (Lo not_end (program G) ts false)
     by n gas = absurd (n refl)
 
 pub done_more : (g G : ℕ) → g + 1 < G → (ts rest : List Tok) (p : Program) → program g ts ≡ out_done p rest → program G ts ≡ out_done p rest
-done_more g G l ts rest p e = by (subst (Lo not_end (program G) ts false) e ((program_good g G l).lo ts))
+done_more g G l ts rest p e = by (more_gas g G l e)
   where
     by : {rest : List Tok} {p : Program} → Lo not_end (program G) ts false (out_done p rest) → program G ts ≡ out_done p rest
     by (done0 h) = h ts (same refl)
@@ -243,7 +247,7 @@ pub record Eats (rest ts : List Tok) : Type 0 where
   pub eaten : Eaten rest pre ts
 
 pub done_eats : (g : ℕ) (ts rest : List Tok) (p : Program) → program g ts ≡ out_done p rest → Eats rest ts
-done_eats g ts rest p e = by (subst (Lo not_end (program (g + 2)) ts false) e ((program_good g (g + 2) (omega arith)).lo ts))
+done_eats g ts rest p e = by (more_gas g (g + 2) (omega arith) e)
   where
     by : {rest : List Tok} {p : Program} → Lo not_end (program (g + 2)) ts false (out_done p rest) → Eats rest ts
     by (done0 h) = record { pre = []; eaten = nothing }
