@@ -1,6 +1,6 @@
 -- An expression that is derived is read. Assumes nothing.
-use Rattle.std.proofs.Common.{◌≡◌, ℕ, zero, suc, ◌+◌, ◌-◌, ◌<◌, ◌≤◌, Bool, true, false, cond, eqb, leb, List, ◌∷◌, sym, refl, ap, ◌∙◌, arith, le-ltb, eq-eqb, ne_eqb, eqb-true, leb-false}
-use borrow.Author.Tests.{lt-leb}
+use Rattle.std.proofs.Common.{◌≡◌, ℕ, zero, suc, ◌+◌, ◌-◌, ◌<◌, ◌≤◌, Bool, true, false, not, ◌&&◌, ◌||◌, eqb, leb, List, ◌∷◌, ⊎_elim, sym, refl, ap, ◌∙◌, arith, le-ltb, eq-eqb, ne_eqb, eqb-true, leb-false}
+use Rattle.std.proofs.lemmas.Bool.{lt-leb, not-false, and_cases, and_left, and_right, or_parts, or_from, or_left}
 use Rattle.script.specs.declared.types.«Type».{«Type» as Ty}
 use Rattle.script.specs.declared.types.«Type».TheVariants as type
 use Rattle.script.specs.declared.types.Name.{Name}
@@ -19,9 +19,8 @@ use Rattle.grammar.specs.Grammar as rule
 use Rattle.grammar.specs.Grammar.{Expression, Actuals, SomeActuals, Condition}
 use Rattle.grammar.specs.Combine.{kind, kind_at, is, out_done, Parser, next, after, from, ret, bad, on, want, loop, separated, listed}
 use Rattle.grammar.specs.Parse.{is_name, is_constant, is_type, binding, operates, compares, joining, joins, type_of, thing_expr, Got, got, Found, binary, goes, level, actuals, named, cast_to, grouped, operand_by, operand, expression, negation_by, merged, negation, condition}
-use Rattle.grammar.proofs.Symbols.{never, Sharp, operates_sharp, own, operator_is, operator_binds}
+use Rattle.grammar.proofs.Symbols.{never, Sharp, operates_sharp, operator_is, operator_binds, no_level}
 use Rattle.grammar.proofs.Local.{on_else, on_it}
-use Rattle.grammar.proofs.Reader.{or_left, or_right}
 
 -- for enough gas
 pub record Gives {X : Type 0} (p : ℕ → Parser X) (ts : List Tok) (x : X) (rest : List Tok) : Type 0 where
@@ -36,16 +35,20 @@ pub from_is : {X Y : Type 0} (p : Parser X) (f : ℕ → X → Parser Y) (ts : L
 unfolding from
 from_is p f ts e = ap (λ o. next o (f (offset ts))) e
 
+-- what its kind tells of a token that is this symbol
+pub at_kind : {A : Type 0} {d : ℕ} {s : Symbol} {t : Tok} (f : ℕ → A) → Is d s t → f (kind t.symbol) ≡ f (kind s)
+at_kind f i = ap (λ s. f (kind s)) i.symbol
+
 -- a token that is this symbol is taken where the test passes, and left where it does not
 pub take : {X : Type 0} {d : ℕ} {s : Symbol} (test : ℕ → Bool) (p : Item → Parser X) (q : Parser X) (t : Tok) (ts : List Tok) → test (kind s) ≡ true → Is d s t → on d test p q (t ∷ ts) ≡ p (item s t.at) ts
-take {d = d} test p q t ts e i = on_it d test p q t ts (ap (λ s. test (kind s)) i.symbol ∙ e) (le-ltb _ _ i.depth) i.counted ∙ ap (λ s. p (item s t.at) ts) i.symbol
+take {d = d} test p q t ts e i = on_it d test p q t ts (at_kind test i ∙ e) (le-ltb _ _ i.depth) i.counted ∙ ap (λ s. p (item s t.at) ts) i.symbol
 
 pub skip : {X : Type 0} {d : ℕ} {s : Symbol} (test : ℕ → Bool) (p : Item → Parser X) (q : Parser X) (t : Tok) (ts : List Tok) → test (kind s) ≡ false → Is d s t → on d test p q (t ∷ ts) ≡ q (t ∷ ts)
 unfolding on
-skip test p q t ts e i = rw (ap (λ s. test (kind s)) i.symbol ∙ e) refl
+skip test p q t ts e i = rw (at_kind test i ∙ e) refl
 
 pub wanted : {X : Type 0} {d : ℕ} (m : Mark) (q : Parser X) (t : Tok) (ts : List Tok) → Is d (mark m) t → want d m q (t ∷ ts) ≡ q ts
-wanted m q t ts i = take (is (mark m)) (λ i. q) bad t ts (own (mark m)) i
+wanted m q t ts i = take (is (mark m)) (λ i. q) bad t ts (eq-eqb (kind (mark m)) _ refl) i
 
 pub loop_go : {X : Type 0} {d : ℕ} {s : Symbol} (test : ℕ → Bool) (f : X → Item → Parser X) (h : ℕ) (x : X) (t : Tok) (ts : List Tok) {y : X} {rest : List Tok} → test (kind s) ≡ true → Is d s t
     → f x (item s t.at) ts ≡ out_done y rest → loop d test f (suc h) x (t ∷ ts) ≡ loop d test f h y rest
@@ -61,42 +64,34 @@ loop_end d test f (suc h) x ts lt z e = on_else d test (λ i. after (f x i) (loo
 pub apart : (f : ℕ → Bool) (s : Symbol) (k : ℕ) → f (kind s) ≡ false → f k ≡ true → is s k ≡ false
 apart f s k n y = ne_eqb k (kind s) (λ e. never (sym y ∙ ap f e ∙ n))
 
+-- what binds, and by n at most
+abbrev pub within : ℕ → ℕ → Bool
+within n b = not (eqb b 0) && leb b n
+
 -- the kinds that go on with an expression of level n, and with a condition
 abbrev pub cont : ℕ → ℕ → Bool
-cont n k = cond (is (mark sign.LeftParen) k) true (cond (eqb (binding k) 0) false (leb (binding k) n))
+cont n k = is (mark sign.LeftParen) k || within n (binding k)
 
 abbrev pub cont_c : ℕ → ℕ → Bool
-cont_c n k = cond (cont 3 k) true (cond (eqb (joining k) 0) false (leb (joining k) n))
+cont_c n k = cont 3 k || within n (joining k)
 
-lower_by : (b n : ℕ) → cond (eqb b 0) false (leb b (suc n)) ≡ false → cond (eqb b 0) false (leb b n) ≡ false
-lower_by b n e = by (eqb b 0) e
-  where
-    by : (z : Bool) → cond z false (leb b (suc n)) ≡ false → cond z false (leb b n) ≡ false
-    by true e = refl
-    by false e = lt-leb b n (omega (arith, leb-false b (suc n) e))
+lower_by : (b n : ℕ) → within (suc n) b ≡ false → within n b ≡ false
+lower_by b n e = ⊎_elim (λ i. and_left _ _ i) (λ i. and_right (not (eqb b 0)) _ (lt-leb b n (omega (arith, leb-false b (suc n) i)))) (and_cases (not (eqb b 0)) _ e)
 
-above_by : (b n : ℕ) → cond (eqb b 0) false (leb b (suc n)) ≡ false → eqb b (suc n) ≡ false
-above_by b n e = by (eqb b 0) refl e
-  where
-    by : (z : Bool) → eqb b 0 ≡ z → cond z false (leb b (suc n)) ≡ false → eqb b (suc n) ≡ false
-    by true i e = ne_eqb b (suc n) (λ j. omega (arith, eqb-true b 0 i))
-    by false i e = ne_eqb b (suc n) (λ j. omega (arith, leb-false b (suc n) e))
-
-either_false : (a b c : Bool) → cond a true b ≡ false → c ≡ false → cond a true c ≡ false
-either_false true b c e i = e
-either_false false b c e i = i
+above_by : (b n : ℕ) → within (suc n) b ≡ false → eqb b (suc n) ≡ false
+above_by b n e = ⊎_elim (λ i. no_level n b (eqb-true b 0 (not-false _ i))) (λ i. ne_eqb b (suc n) (λ j. omega (arith, leb-false b (suc n) i))) (and_cases (not (eqb b 0)) _ e)
 
 lower : (n k : ℕ) → cont (suc n) k ≡ false → cont n k ≡ false
-lower n k e = either_false (is (mark sign.LeftParen) k) _ _ e (lower_by (binding k) n (or_right (is (mark sign.LeftParen) k) _ e))
+lower n k e = let p = or_parts (is (mark sign.LeftParen) k) _ e in or_from _ _ p.0 (lower_by (binding k) n p.1)
 
 above : (n k : ℕ) → cont (suc n) k ≡ false → operates (suc n) k ≡ false
-above n k e = above_by (binding k) n (or_right (is (mark sign.LeftParen) k) _ e)
+above n k e = above_by (binding k) n (or_parts (is (mark sign.LeftParen) k) _ e).1
 
 pub lower_c : (n k : ℕ) → cont_c (suc n) k ≡ false → cont_c n k ≡ false
-lower_c n k e = either_false (cont 3 k) _ _ e (lower_by (joining k) n (or_right (cont 3 k) _ e))
+lower_c n k e = let p = or_parts (cont 3 k) _ e in or_from _ _ p.0 (lower_by (joining k) n p.1)
 
 pub above_c : (n k : ℕ) → cont_c (suc n) k ≡ false → joins (suc n) k ≡ false
-above_c n k e = above_by (joining k) n (or_right (cont 3 k) _ e)
+above_c n k e = above_by (joining k) n (or_parts (cont 3 k) _ e).1
 
 belongs : (n : ℕ) (o : Operator) → binds o ≡ suc n → cont n (kind (mark (operator_mark o))) ≡ false
 belongs n operator.Multiply e = lt-leb 1 n (omega arith)
@@ -114,33 +109,29 @@ comparison_stops comparison.Greater = refl
 
 -- the kinds that an expression or a condition begins with
 abbrev pub heads : ℕ → Bool
-heads k = cond (is_constant k) true (cond (is_name k) true (cond (is (keyword word.Nil) k) true (cond (is (mark sign.Minus) k) true (is (mark sign.LeftParen) k))))
+heads k = is_constant k || (is_name k || (is (keyword word.Nil) k || (is (mark sign.Minus) k || is (mark sign.LeftParen) k)))
 
 abbrev pub heads_c : ℕ → Bool
-heads_c k = cond (heads k) true (is (mark sign.Not) k)
+heads_c k = heads k || is (mark sign.Not) k
 
 pub no_type : (k : ℕ) → heads_c k ≡ true → is_type k ≡ false
 no_type k h = rw (apart heads_c (keyword word.Int) k refl h, apart heads_c (keyword word.Ref) k refl h) (apart heads_c (keyword word.Q) k refl h)
 
 pub headed : {n d : ℕ} {ts rest : List Tok} {e : Expr} → Expression n d ts e rest → heads (kind_at ts) ≡ true
-headed (rule.nil i) = ap (λ s. heads (kind s)) i.symbol
-headed (rule.number i) = ap (λ s. heads (kind s)) i.symbol
-headed (rule.variable i) = ap (λ s. heads (kind s)) i.is.symbol
-headed (rule.negated i x) = ap (λ s. heads (kind s)) i.symbol
-headed (rule.cast i u v x) = ap (λ s. heads (kind s)) i.symbol
-headed (rule.call i u a v) = ap (λ s. heads (kind s)) i.is.symbol
-headed (rule.group i x u) = ap (λ s. heads (kind s)) i.symbol
+headed (rule.nil i) = at_kind heads i
+headed (rule.number i) = at_kind heads i
+headed (rule.variable i) = at_kind heads i.is
+headed (rule.negated i x) = at_kind heads i
+headed (rule.cast i u v x) = at_kind heads i
+headed (rule.call i u a v) = at_kind heads i.is
+headed (rule.group i x u) = at_kind heads i
 headed (rule.looser l x) = headed x
 headed (rule.binary o b x i y) = headed x
 
-pub or_true : (a b : Bool) → a ≡ true → cond a true b ≡ true
-or_true true b e = refl
-or_true false b e = never (sym e)
-
 pub headed_c : {n d : ℕ} {ts rest : List Tok} {c : Cond} → Condition n d ts c rest → heads_c (kind_at ts) ≡ true
-headed_c {ts = ts} (rule.compared o x i y) = or_true (heads (kind_at ts)) _ (headed x)
-headed_c (rule.negated i x) = ap (λ s. heads_c (kind s)) i.symbol
-headed_c (rule.group i x u) = ap (λ s. heads_c (kind s)) i.symbol
+headed_c {ts = ts} (rule.compared o x i y) = or_left (heads (kind_at ts)) _ (headed x)
+headed_c (rule.negated i x) = at_kind heads_c i
+headed_c (rule.group i x u) = at_kind heads_c i
 headed_c (rule.looser l x) = headed_c x
 headed_c (rule.both x i y) = headed_c x
 headed_c (rule.either x i y) = headed_c x
@@ -313,34 +304,34 @@ mutual
   pub comp : (m : Bool) {n d : ℕ} {ts : List Tok} {e : Expr} {rest : List Tok} → Expression n d ts e rest → cont n (kind_at rest) ≡ false → Gives (λ g. level_by m n d g) ts (got m e) rest
   comp m (rule.nil {d = d} {t = t} {ts = ts} i) st = base_gives m d 0 (t ∷ ts) _ ts (λ g l. nil_in m d g _ _ _ t ts i)
   comp m (rule.number {d = d} {t = t} {ts = ts} i) st = base_gives m d 0 (t ∷ ts) _ ts (λ g l. constant_in m d g _ _ _ t ts i)
-  comp m (rule.variable {d = d} {x = x} {t = t} {ts = ts} i) st = variable_gives m d t x ts i (or_left _ _ st)
+  comp m (rule.variable {d = d} {x = x} {t = t} {ts = ts} i) st = variable_gives m d t x ts i (or_parts (is (mark sign.LeftParen) (kind_at ts)) _ st).0
   comp m (rule.negated {d = d} {t = t} {ts = ts} {rest = rest} {e = e} i x) st = negated_gives m d t ts e rest i (comp false x st)
   comp m (rule.cast {d = d} {ty = ty} {t = t} {u = u} {v = v} {ts = ts} {rest = rest} {e = e} i j c x) st = cast_gives m d t u v ts ty e rest i j c (comp false x st)
   comp m (rule.call {d = d} {x = x} {t = t} {u = u} {ts = ts} {rest = rest} {es = es} i j a c) st = call_gives m d t u x ts es rest i j (all_actuals a c)
   comp false (rule.group {d = d} {t = t} {u = u} {ts = ts} {rest = rest} {e = e} i x c) st =
-      group_gives false d t u ts e rest i c (or_true (heads (kind_at ts)) _ (headed x)) (comp false x (ap (λ s. cont 3 (kind s)) c.symbol))
+      group_gives false d t u ts e rest i c (or_left (heads (kind_at ts)) _ (headed x)) (comp false x (at_kind (cont 3) c))
   comp true (rule.group {d = d} {t = t} {u = u} {ts = ts} {rest = rest} {e = e} i x c) st =
-      group_gives true d t u ts (thing_expr e) rest i c (or_true (heads (kind_at ts)) _ (headed x))
-      (thing_gives (suc d) ts e (u ∷ rest) (apart heads (mark sign.Not) (kind_at ts) refl (headed x)) (ap (λ s. compares (kind s)) c.symbol) (comp true x (ap (λ s. cont 3 (kind s)) c.symbol)))
+      group_gives true d t u ts (thing_expr e) rest i c (or_left (heads (kind_at ts)) _ (headed x))
+      (thing_gives (suc d) ts e (u ∷ rest) (apart heads (mark sign.Not) (kind_at ts) refl (headed x)) (at_kind compares c) (comp true x (at_kind (cont 3) c)))
   comp m (rule.looser {k = n} {d = d} {ts = ts} {rest = rest} {e = e} l x) st =
       reach_end m n d ts e rest (reach_start m n d ts e rest (comp m x (lower n (kind_at rest) st))) (above n (kind_at rest) st)
   comp m (rule.binary {k = n} {d = d} {t = t} {ts = ts} {mid = mid} {rest = rest} {e = e} {f = f} o b x i y) st =
-      reach_end m n d ts _ rest (reach_grow m n d ts mid rest e f t o (reach m x (ap (λ s. cont n (kind s)) i.symbol ∙ belongs n o b)) b i (comp false y (lower n (kind_at rest) st))) (above n (kind_at rest) st)
+      reach_end m n d ts _ rest (reach_grow m n d ts mid rest e f t o (reach m x (at_kind (cont n) i ∙ belongs n o b)) b i (comp false y (lower n (kind_at rest) st))) (above n (kind_at rest) st)
 
   reach : (m : Bool) {n d : ℕ} {ts : List Tok} {e : Expr} {rest : List Tok} → Expression (suc n) d ts e rest → cont n (kind_at rest) ≡ false → Reach m n d ts e rest
   reach m (rule.looser {k = n} {d = d} {ts = ts} {rest = rest} {e = e} l x) st = reach_start m n d ts e rest (comp m x st)
   reach m (rule.binary {k = n} {d = d} {t = t} {ts = ts} {mid = mid} {rest = rest} {e = e} {f = f} o b x i y) st =
-      reach_grow m n d ts mid rest e f t o (reach m x (ap (λ s. cont n (kind s)) i.symbol ∙ belongs n o b)) b i (comp false y st)
+      reach_grow m n d ts mid rest e f t o (reach m x (at_kind (cont n) i ∙ belongs n o b)) b i (comp false y st)
 
   pub all_actuals : {d : ℕ} {ts : List Tok} {es : Exprs} {t : Tok} {rest : List Tok} → Actuals (suc d) ts es (t ∷ rest) → Is d (mark sign.RightParen) t → Gives (λ g. actuals d g (expression g (suc d))) ts es rest
   all_actuals {d = d} {t = t} {rest = rest} rule.no_actual c = listed_none d (λ g. expression g (suc d)) tree.none tree.more t rest c
   all_actuals {d = d} {ts = ts} {es = es} {t = t} {rest = rest} (rule.actuals a) c =
-      listed_some d (λ g. expression g (suc d)) tree.none tree.more t ts rest es (actuals_begin a) (some_actuals a (ap (λ s. cont 3 (kind s)) c.symbol) (ap (λ s. is (mark sign.Comma) (kind s)) c.symbol)) c
+      listed_some d (λ g. expression g (suc d)) tree.none tree.more t ts rest es (actuals_begin a) (some_actuals a (at_kind (cont 3) c) (at_kind (is (mark sign.Comma)) c)) c
 
   some_actuals : {d : ℕ} {ts : List Tok} {es : Exprs} {rest : List Tok} → SomeActuals d ts es rest → cont 3 (kind_at rest) ≡ false → is (mark sign.Comma) (kind_at rest) ≡ false
       → Lists d (λ g. expression g d) tree.none tree.more ts es rest
   some_actuals {d = d} (rule.last_actual x) st n = lists_last d (λ g. expression g d) tree.none tree.more (comp false x st) n
-  some_actuals {d = d} (rule.next_actual x c a) st n = lists_more d (λ g. expression g d) tree.none tree.more (comp false x (ap (λ s. cont 3 (kind s)) c.symbol)) c (some_actuals a st n)
+  some_actuals {d = d} (rule.next_actual x c a) st n = lists_more d (λ g. expression g d) tree.none tree.more (comp false x (at_kind (cont 3) c)) c (some_actuals a st n)
 
   actuals_begin : {d : ℕ} {ts : List Tok} {es : Exprs} {rest : List Tok} → SomeActuals d ts es rest → is (mark sign.RightParen) (kind_at ts) ≡ false
   actuals_begin {ts = ts} (rule.last_actual x) = apart heads (mark sign.RightParen) (kind_at ts) refl (headed x)

@@ -11,10 +11,10 @@ use Rattle.grammar.specs.Refusals.{Ended, last, before, BeginsProgram, BeginsWit
 use Rattle.grammar.specs.Combine.{kind_at, Why, why_bad, why_deep, why_many, why_gas, Out, out_done, out_fail}
 use Rattle.grammar.specs.Parse.{program, why_number, number_of, verdict, outcome}
 use Rattle.grammar.proofs.Symbols.{never, an_end}
-use Rattle.grammar.proofs.Local.{Eaten, nothing, bite, Fails, fails}
+use Rattle.grammar.proofs.Local.{Eaten, nothing, bite}
 use Rattle.grammar.proofs.Sound.{derived}
 use Rattle.grammar.proofs.Fuel.{enough_gas}
-use Rattle.grammar.proofs.Refusing.{closes, Read, read, eaten_eq, begins_within, front_within, refused_bad, refused_deep, Told, Refused, refused, fails_more, done_more, done_eats}
+use Rattle.grammar.proofs.Refusing.{closes, Read, read, not_read, eaten_eq, begins_within, front_within, refused_bad, refused_deep, Told, Refused, refused, fails_more, done_more, done_eats}
 
 -- the token of an item that comes after n others
 abbrev tok : ℕ → Item → Tok
@@ -79,7 +79,7 @@ was is p e = by (program (suc (length is)) (tokens is)) refl e
   where
     by : (o : Out Program) → program (suc (length is)) (tokens is) ≡ o → verdict o ≡ reads p → Was is p
     by (out_done q rest) i e = let z : q ≡ p = cc in record { rest = rest; run = i ∙ ap (λ p. out_done p rest) z }
-    by (out_fail rest why) i e = absurd (grind arith)
+    by (out_fail rest why) i e = absurd cc
 
 sound : (is : List Item) (p : Program) → Ended is → outcome is ≡ reads p → Programs (tokens is) p
 sound is p en e =
@@ -108,10 +108,7 @@ complete is p en w = by (program (suc (length is)) (tokens is)) refl
         let z : out_done q rest ≡ out_done p r.rest = sym (done_more (suc (length is)) G (omega arith) (tokens is) rest q i) ∙ g in
         let y : q ≡ p = cc in
         ap reads y
-    by (out_fail rest why) i = absurd (none (fails_more (suc (length is)) G (omega arith) (tokens is) rest why (enough is rest why i) i))
-      where
-        none : Fails (program G (tokens is)) → ⊥
-        none (fails {rest = s} {why = y} f) = let z : out_fail s y ≡ out_done p r.rest = sym f ∙ g in absurd (grind arith)
+    by (out_fail rest why) i = absurd (not_read (fails_more (suc (length is)) G (omega arith) (tokens is) rest why (enough is rest why i) i) g)
 
 -- what was refused: at the item i, and why
 pub record Stopped (is : List Item) (o n : ℕ) : Type 0 where
@@ -129,7 +126,7 @@ unfolding outcome
 stopped is o n en e = by (program (suc (length is)) (tokens is)) refl e
   where
     by : (x : Out Program) → program (suc (length is)) (tokens is) ≡ x → verdict x ≡ refuses o n → Stopped is o n
-    by (out_done q rest) i e = absurd (grind arith)
+    by (out_done q rest) i e = absurd cc
     by (out_fail rest why) i e =
         let r = refused (suc (length is)) (tokens is) rest why (enough is rest why i) i in
         let s = place 0 (omega arith) en r.eaten in
@@ -201,15 +198,15 @@ order (a ∷ pre) (b ∷ ahead) t u rest after e =
 
 -- a token before the refused one is counted and not last
 eaten_token : {rest pre ts : List Tok} (ahead : List Tok) (u : Tok) (more : List Tok) → Eaten rest pre ts → pre ≡ (ahead ++ (u ∷ [])) ++ more → (final u.symbol ≡ false) × (u.counted ≡ true)
-eaten_token [] u more nothing e = absurd (grind arith)
+eaten_token [] u more nothing e = absurd cc
 eaten_token [] u more (bite {t = t} {pre = pre} f c k) e = let z : t ≡ u = cc in (ap (λ t. final t.symbol) (sym z) ∙ f, ap (λ t. t.counted) (sym z) ∙ c)
-eaten_token (a ∷ ahead) u more nothing e = absurd (grind arith)
+eaten_token (a ∷ ahead) u more nothing e = absurd cc
 eaten_token (a ∷ ahead) u more (bite {t = t} {pre = pre} f c k) e = let z : pre ≡ (ahead ++ (u ∷ [])) ++ more = cc in eaten_token ahead u more k z
 
 -- offsets rise
 later : {i : Item} {back : List Item} → Ended (i ∷ back) → (m : ℕ) (more : List Tok) (u : Tok) (after : List Tok) → tokens_from m back ≡ more ++ (u ∷ after) → i.at < u.at
-later (last f) m [] u after e = absurd (grind arith)
-later (last f) m (a ∷ more) u after e = absurd (grind arith)
+later (last f) m [] u after e = absurd cc
+later (last f) m (a ∷ more) u after e = absurd cc
 later (before {i = i} {j = j} {is = is} f l en) m [] u after e = let z : tok m j ≡ u = cc in subst (λ t. i.at < t.at) z l
 later (before {j = j} {is = is} f l en) m (a ∷ more) u after e = let z : tokens_from (suc m) is ≡ more ++ (u ∷ after) = cc in let k = later en (suc m) more u after z in omega arith
 

@@ -28,22 +28,13 @@ slow (halt h) = halt h
 ret_fed : {X : Type 0} {n : ℕ} (x : X) → Fed n false (ret x)
 ret_fed x ts k = done (omega arith) (λ e. never (sym e))
 
-not_bad : why_bad ≡ why_gas → ⊥
-not_bad e = absurd (grind arith)
-
-not_deep : why_deep ≡ why_gas → ⊥
-not_deep e = absurd (grind arith)
-
-not_many : why_many ≡ why_gas → ⊥
-not_many e = absurd (grind arith)
-
 bad_fed : {X : Type 0} {n : ℕ} {w : Bool} → Fed {X = X} n w bad
-bad_fed ts k = halt not_bad
+bad_fed ts k = halt (λ e. cc)
 
--- one token more
-longer : {X : Type 0} {w v : Bool} {t : Tok} {ts : List Tok} {o : Out X} → Fine v ts o → Fine w (t ∷ ts) o
-longer (done l s) = done (omega arith) (λ e. omega arith)
-longer (halt h) = halt h
+-- what reads on from fewer tokens
+after_less : {Y : Type 0} {w v : Bool} {ts rest : List Tok} {o : Out Y} → length rest < length ts → Fine v rest o → Fine w ts o
+after_less l (done j r) = done (omega arith) (λ q. omega arith)
+after_less l (halt j) = halt j
 
 on_fed : {X : Type 0} {n m : ℕ} {w v : Bool} (d : ℕ) (test : ℕ → Bool) (p : Item → Parser X) (q : Parser X) → n ≤ suc m → ((i : Item) → Fed m v (p i)) → Fed n w q → Fed n w (on d test p q)
 unfolding on
@@ -51,16 +42,12 @@ on_fed d test p q l h k [] f = k [] f
 on_fed {w = w} d test p q l h k (t ∷ ts) f = by (test (kind t.symbol)) (ltb t.deepest d) t.counted
   where
     by : (a b c : Bool) → Fine w (t ∷ ts) (cond a (cond b (out_fail (t ∷ ts) why_deep) (cond c (p (bare t) ts) (out_fail (t ∷ ts) why_many))) (q (t ∷ ts)))
-    by true true c = halt not_deep
-    by true false true = longer (h (bare t) ts (omega arith))
-    by true false false = halt not_many
+    by true true c = halt (λ e. cc)
+    by true false true = after_less (omega arith) (h (bare t) ts (omega arith))
+    by true false false = halt (λ e. cc)
     by false b c = k (t ∷ ts) f
 
 -- p reads a token, and then there may be one less
-after_less : {Y : Type 0} {w v : Bool} {ts rest : List Tok} {o : Out Y} → length rest < length ts → Fine v rest o → Fine w ts o
-after_less l (done j r) = done (omega arith) (λ q. omega arith)
-after_less l (halt j) = halt j
-
 shorter : {X Y : Type 0} {n m : ℕ} {w v : Bool} {ts : List Tok} {o : Out X} (f : X → Parser Y) → w ≡ true → n ≤ suc m → length ts < n → Fine w ts o → ((x : X) → Fed m v (f x)) → Fine w ts (next o f)
 shorter f e l k (done {x = x} {rest = rest} i s) h = let z = s e in after_less z (h x rest (omega arith))
 shorter f e l k (halt i) h = halt i
@@ -230,11 +217,11 @@ program_fed g = then_fed (many declares (function g) [] (λ f p. f ∷ p) g) end
       where
         by : (b : Bool) → Fine false rest (cond b (out_done p rest) (out_fail rest why_bad))
         by true = ret_fed p rest l
-        by false = halt not_bad
+        by false = halt (λ e. cc)
 
 pub enough_gas : (g : ℕ) (ts rest : List Tok) → length ts < g → program g ts ≡ out_fail rest why_gas → ⊥
 enough_gas g ts rest l e = by (program g ts) (program_fed g ts l) e
   where
     by : (o : Out Program) → Fine false ts o → o ≡ out_fail rest why_gas → ⊥
-    by (out_done p r) f e = absurd (grind arith)
+    by (out_done p r) f e = cc
     by (out_fail r y) (halt h) e = h (cc)

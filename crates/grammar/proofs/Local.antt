@@ -1,13 +1,13 @@
 -- A reader looks no further than the token at which it stops, and what it has read can be completed. Assumes nothing.
-use Rattle.std.proofs.Common.{◌≡◌, ℕ, zero, suc, ◌<◌, Bool, true, false, cond, eqb, ltb, ◌⊎◌, List, [], ◌∷◌, ◌++◌, sym, refl, ap, ◌∙◌, inl, inr, append_assoc, arith, le-ltb}
-use Rattle.std.proofs.lemmas.Bool.Decides.{eqb_tells}
+use Rattle.std.proofs.Common.{◌≡◌, ℕ, zero, suc, ◌<◌, Bool, true, false, cond, eqb, ltb, ◌⊎◌, List, [], ◌∷◌, ◌++◌, sym, refl, ap, ◌∙◌, inl, inr, append_assoc, arith, le-ltb, eq-eqb, ne_eqb, eqb-true, not}
+use Rattle.std.proofs.lemmas.Bool.{not-false, cond-true, cond-false}
 use Rattle.tokens.specs.declared.types.Mark.{Mark}
 use Rattle.tokens.specs.declared.types.Mark.TheVariants as sign
 use Rattle.tokens.specs.Spelling.{Symbol, mark, Item, item}
 use Rattle.tokens.specs.Scan.{final}
 use Rattle.grammar.specs.Tokens.{Tok, offset}
 use Rattle.grammar.specs.Combine.{kind, kind_at, is, Why, why_bad, why_deep, why_many, why_gas, Out, out_done, out_fail, Parser, next, after, from, ret, bad, no_more, bare, on, want, peek, loop, many, separated, ends}
-use Rattle.grammar.proofs.Symbols.{never, Sharp, goes_on, mark_sharp, own}
+use Rattle.grammar.proofs.Symbols.{never, Sharp, goes_on, mark_sharp}
 
 -- the same kind of token stands there, or one that nothing of Q goes on with
 pub data Near (Q : ℕ → Bool) (a b : List Tok) : Type 0 where
@@ -168,6 +168,22 @@ wider l (bad1 t pre c x e h g) = bad1 t pre c x e h (λ z all f q. g z all f (l.
 wider l (over pre c x u e r k h) = over pre c x u e r k (λ z all f q. h z all f (l.so _ q))
 wider l gas = gas
 
+-- a test that fails at ts fails at what is near it
+stays : {test Q : ℕ → Bool} {ts : List Tok} → test (kind_at ts) ≡ false → Less test Q → (z : List Tok) → Near Q ts z → test (kind_at z) ≡ false
+stays {test = test} h l z (same e) = ap test e ∙ h
+stays h l z (stop e) = l.so _ e
+
+-- R is P wherever the kind of token at ts stands, and where P may read nothing also where Q stops
+along : {X : Type 0} {Q : ℕ → Bool} {P R : Parser X} {w : Bool} {ts : List Tok} {o : Out X} → ((z : List Tok) → kind_at z ≡ kind_at ts → R z ≡ P z)
+    → (w ≡ false → (z : List Tok) → Near Q ts z → R z ≡ P z) → Lo Q P ts w o → Lo Q R ts w o
+along b n (done0 f) = done0 (λ z i. n refl z i ∙ f z i)
+along b n (done1 t pre e f) = done1 t pre e (λ s z all r i. gets_by (b all (front_kind e r)) (f s z all r i))
+along b n (bad0 f) = bad0 (λ z i. fails_by (b z i) (f z i))
+along b n (bad1 t pre c x e f g) = bad1 t pre c x e (λ z all r i. fails_by (b all (front_kind e r)) (f z all r i)) (λ z all r i. b all (front_kind e r) ∙ g z all r i)
+along b n (over pre c x u e r k f) =
+    over pre c x u e r (λ v z all i j w. fails_by (b all (head_kind e i j)) (k v z all i j w)) (λ z all i j. b all (head_kind e i (over_symbol r)) ∙ f z all i j)
+along b n gas = gas
+
 -- ret and bad
 pub ret_lo : {X : Type 0} {Q : ℕ → Bool} (x : X) (ts : List Tok) → Lo Q (ret x) ts false (out_done x ts)
 ret_lo x ts = done0 (λ z n. refl)
@@ -175,8 +191,12 @@ ret_lo x ts = done0 (λ z n. refl)
 pub bad_lo : {X : Type 0} {Q : ℕ → Bool} {w : Bool} (ts : List Tok) → Lo {X = X} Q bad ts w (out_fail ts why_bad)
 bad_lo ts = bad0 (λ z e. fails refl)
 
+-- no token is needed for x to be read
+empty_alive : {X : Type 0} {S Q : ℕ → Bool} {P : Parser X} (x : X) → ((z : List Tok) → Q (kind_at z) ≡ false → P z ≡ out_done x z) → Less S Q → Alive false S Q P
+empty_alive x r l = record { c = []; x = x; at = 0; begins = λ e. never (sym e); reads = r; first = λ z q. l.so _ q }
+
 pub ret_alive : {X : Type 0} {S Q : ℕ → Bool} (x : X) → Less S Q → Alive false S Q (ret x)
-ret_alive x l = record { c = []; x = x; at = 0; begins = λ e. never (sym e); reads = λ z q. refl; first = λ z q. l.so _ q }
+ret_alive x l = empty_alive x (λ z q. refl) l
 
 -- on
 pub on_else : {X : Type 0} (d : ℕ) (test : ℕ → Bool) (p : Item → Parser X) (q : Parser X) (ts : List Tok) → Sharp test → test (kind_at ts) ≡ false → on d test p q ts ≡ q ts
@@ -197,9 +217,6 @@ on_many : {X : Type 0} (d : ℕ) (test : ℕ → Bool) (p : Item → Parser X) (
     → on d test p q (t ∷ ts) ≡ out_fail (t ∷ ts) why_many
 unfolding on
 on_many d test p q t ts h i c = rw (h, i, c) refl
-
-not_less : (d : ℕ) → ltb d d ≡ false
-not_less d = le-ltb d d (omega arith)
 
 alike_bare : {s : Bool} {t u : Tok} → Alike s t u → bare u ≡ bare t
 alike_bare {t = t} {u = u} a = ap (λ s. item s u.at) a.symbol ∙ ap (λ i. item t.symbol i) a.at
@@ -270,26 +287,13 @@ module _ {X : Type 0} {Q : ℕ → Bool} (d : ℕ) (test : ℕ → Bool) (P : It
   taken t sh h i c a gas = gas
 
   left : {w : Bool} {ts : List Tok} {o : Out X} → Sharp test → test (kind_at ts) ≡ false → (w ≡ false → Less test Q) → Lo Q R ts w o → Lo Q (on d test P R) ts w o
-  left {ts = ts} sh h l (done0 f) = done0 (λ z n. on_else d test P R z sh (stops z n) ∙ f z n)
-    where
-      stops : (z : List Tok) → Near Q ts z → test (kind_at z) ≡ false
-      stops z (same e) = ap test e ∙ h
-      stops z (stop e) = (l refl).so _ e
-  left sh h l (done1 u pre e f) = done1 u pre e (λ s z all r n. gets_by (on_else d test P R all sh (ap test (front_kind e r) ∙ h)) (f s z all r n))
-  left sh h l (bad0 f) = bad0 (λ z n. fails_by (on_else d test P R z sh (ap test n ∙ h)) (f z n))
-  left sh h l (bad1 u pre c x e f g) =
-      bad1 u pre c x e (λ z all r n. fails_by (on_else d test P R all sh (ap test (front_kind e r) ∙ h)) (f z all r n))
-      (λ z all r n. on_else d test P R all sh (ap test (front_kind e r) ∙ h) ∙ g z all r n)
-  left sh h l (over pre c x u e r k f) =
-      over pre c x u e r (λ v z all i n w. fails_by (on_else d test P R all sh (ap test (head_kind e i n) ∙ h)) (k v z all i n w))
-      (λ z all i n. on_else d test P R all sh (ap test (head_kind e i (over_symbol r)) ∙ h) ∙ f z all i n)
-  left sh h l gas = gas
+  left sh h l = along (λ z e. on_else d test P R z sh (ap test e ∙ h)) (λ w z n. on_else d test P R z sh (stays h (l w) z n))
 
   deep_lo : {w v : Bool} (t : Tok) (ts : List Tok) → test (kind t.symbol) ≡ true → ltb t.deepest d ≡ true → ((i : Item) → Alive v no_kind Q (P i)) → Lo Q (on d test P R) (t ∷ ts) w (out_fail (t ∷ ts) why_deep)
   deep_lo {w = w} t ts h i a =
       over [] (a (bare t)).c (a (bare t)).x up nothing (too_deep refl refl)
       (λ v z all r n k. fails (ap (on d test P R) (front_nil r) ∙ on_deep d test P R v z (ap (λ s. test (kind s)) n ∙ h) (ap (λ j. ltb j d) k ∙ i)))
-      (λ z all r n. ap (on d test P R) (front_nil r) ∙ on_it d test P R up _ h (not_less d) refl ∙ (a (bare t)).reads z n)
+      (λ z all r n. ap (on d test P R) (front_nil r) ∙ on_it d test P R up _ h (le-ltb d d (omega arith)) refl ∙ (a (bare t)).reads z n)
     where
       up : Tok
       up = record { symbol = t.symbol; at = t.at; deepest = d; counted = true }
@@ -326,7 +330,7 @@ module _ {X : Type 0} {Q : ℕ → Bool} (d : ℕ) (test : ℕ → Bool) (P : It
       by false h false i c j = left z h l (hq (t ∷ ts))
 
   pub on_alive : {w v : Bool} {S : ℕ → Bool} (s : Symbol) → test (kind s) ≡ true → S (kind s) ≡ false → ((i : Item) → Alive v no_kind Q (P i)) → Alive w S Q (on d test P R)
-  on_alive {v = v} {S = S} s h n a = record { c = t ∷ b.c; x = b.x; at = 0; begins = λ e z. refl; reads = λ z q. on_it d test P R t (b.c ++ z) h (not_less d) refl ∙ b.reads z q; first = λ z q. n }
+  on_alive {v = v} {S = S} s h n a = record { c = t ∷ b.c; x = b.x; at = 0; begins = λ e z. refl; reads = λ z q. on_it d test P R t (b.c ++ z) h (le-ltb d d (omega arith)) refl ∙ b.reads z q; first = λ z q. n }
     where
       t : Tok
       t = record { symbol = s; at = 0; deepest = d; counted = true }
@@ -342,15 +346,7 @@ module _ {X Y : Type 0} {S Q : ℕ → Bool} (P : Parser X) (F : X → Parser Y)
   -- p has read nothing
   then0 : {v : Bool} → (v ≡ false → Less S Q) → (x : X) {ts : List Tok} {o : Out Y} → ((z : List Tok) → Near S ts z → P z ≡ out_done x z) → Lo Q (F x) ts v o → Lo Q (after P F) ts false o
   unfolding after
-  then0 l x h (done0 f) = done0 (λ z n. ap (λ o. next o F) (h z (nearer (l refl) n)) ∙ f z n)
-  then0 l x h (done1 u pre e f) = done1 u pre e (λ s z all r n. gets_by (ap (λ o. next o F) (h all (same (front_kind e r)))) (f s z all r n))
-  then0 l x h (bad0 f) = bad0 (λ z n. fails_by (ap (λ o. next o F) (h z (same n))) (f z n))
-  then0 l x h (bad1 u pre c y e f g) =
-      bad1 u pre c y e (λ z all r n. fails_by (ap (λ o. next o F) (h all (same (front_kind e r)))) (f z all r n)) (λ z all r n. ap (λ o. next o F) (h all (same (front_kind e r))) ∙ g z all r n)
-  then0 l x h (over pre c y u e r k f) =
-      over pre c y u e r (λ v z all i n w. fails_by (ap (λ o. next o F) (h all (same (head_kind e i n)))) (k v z all i n w))
-      (λ z all i n. ap (λ o. next o F) (h all (same (head_kind e i (over_symbol r)))) ∙ f z all i n)
-  then0 l x h gas = gas
+  then0 l x h f = looser (along (λ z e. ap (λ o. next o F) (h z (same e))) (λ w z n. ap (λ o. next o F) (h z (nearer (l w) n))) f)
 
 -- R is P and then F wherever t and pre stand first
 module _ {X Y : Type 0} {S Q : ℕ → Bool} (P : Parser X) (F : X → Parser Y) (R : Parser Y) where
@@ -441,11 +437,7 @@ module _ {X Y : Type 0} {S Q : ℕ → Bool} (P : Parser X) (F : ℕ → X → P
 
 -- sets of kinds
 pub less_is : (Q : ℕ → Bool) (s : Symbol) → Q (kind s) ≡ true → Less (is s) Q
-less_is Q s h = record { so = λ k e. by k e (eqb_tells k (kind s)) }
-  where
-    by : (k : ℕ) → Q k ≡ false → ((eqb k (kind s) ≡ true) × (k ≡ kind s)) ⊎ ((eqb k (kind s) ≡ false) × (k ≡ kind s → ⊥)) → eqb k (kind s) ≡ false
-    by k e (inl p) = never (sym h ∙ ap Q (sym p.1) ∙ e)
-    by k e (inr p) = p.0
+less_is Q s h = record { so = λ k e. ne_eqb k (kind s) (λ i. never (sym h ∙ ap Q (sym i) ∙ e)) }
 
 pub less_refl : {Q : ℕ → Bool} → Less Q Q
 less_refl = record { so = λ k e. e }
@@ -488,12 +480,17 @@ weak h = record { lo = λ ts. looser (h.lo ts); alive = dull h.alive }
 pub wide : {X : Type 0} {S Q : ℕ → Bool} {w : Bool} {p P : Parser X} → Less S Q → Good S w p P → Good Q w p P
 wide l h = record { lo = λ ts. wider l (h.lo ts); alive = wide_alive l h.alive }
 
+-- a token that passes the test is taken, and p reads on; any other is left to q
+pub takes_lo : {X : Type 0} {Q : ℕ → Bool} {w v : Bool} (d : ℕ) (test : ℕ → Bool) {p P : Item → Parser X} {q R : Parser X} → Sharp test → (w ≡ false → Less test Q) → ((i : Item) → Good Q v (p i) (P i))
+    → ((ts : List Tok) → Lo Q R ts w (q ts)) → (ts : List Tok) → Lo Q (on d test P R) ts w (on d test p q ts)
+takes_lo d test {P = P} {R = R} z l h = on_lo d test P R z l (λ i. (h i).alive) (λ i. (weak (h i)).lo)
+
 -- a mark, and then p
 pub want_lo : {X : Type 0} {Q : ℕ → Bool} (d : ℕ) (m : Mark) {w : Bool} {p P : Parser X} → Good Q w p P → (ts : List Tok) → Lo Q (want d m P) ts true (want d m p ts)
 want_lo d m {p = p} {P = P} h ts = on_lo d (is (mark m)) (λ t. P) bad {p = λ t. p} {q = bad} (mark_sharp m) never (λ t. h.alive) (λ t ts. looser (h.lo ts)) bad_lo ts
 
 pub want_alive : {X : Type 0} {w v : Bool} {S Q : ℕ → Bool} (d : ℕ) (m : Mark) → S (kind (mark m)) ≡ false → {P : Parser X} → Alive v no_kind Q P → Alive w S Q (want d m P)
-want_alive d m s a = on_alive d (is (mark m)) _ bad (mark m) (own (mark m)) s (λ t. a)
+want_alive d m s a = on_alive d (is (mark m)) _ bad (mark m) (eq-eqb (kind (mark m)) _ refl) s (λ t. a)
 
 pub wants : {X : Type 0} {Q : ℕ → Bool} {w : Bool} {p P : Parser X} (d : ℕ) (m : Mark) → Good Q w p P → Good Q true (want d m p) (want d m P)
 wants d m h = record { lo = want_lo d m h; alive = want_alive d m refl h.alive }
@@ -508,7 +505,7 @@ pub closing : {X Y : Type 0} {S Q : ℕ → Bool} {w : Bool} {p P : Parser X} (d
 closing d m f s h = then_mark d m s h (λ x. ret_good (f x))
 
 pub opt_alive : {X : Type 0} {S Q : ℕ → Bool} (d : ℕ) (test : ℕ → Bool) (P : Item → Parser X) (x : X) → Sharp test → Less test Q → Less S Q → Alive false S Q (on d test P (ret x))
-opt_alive d test P x z l m = record { c = []; x = x; at = 0; begins = λ e. never (sym e); reads = λ z₁ q. on_else d test P (ret x) z₁ z (l.so _ q); first = λ z₁ q. m.so _ q }
+opt_alive d test P x sharp l m = empty_alive x (λ z q. on_else d test P (ret x) z sharp (l.so _ q)) m
 
 -- loop
 module _ {X : Type 0} {Q : ℕ → Bool} (d : ℕ) (test : ℕ → Bool) (F : X → Item → Parser X) where
@@ -533,38 +530,20 @@ pub loop_good : {X : Type 0} {S Q : ℕ → Bool} (d g G : ℕ) → g < G → (t
 loop_good d g G lt test {f = f} {F = F} z l m h x = record { lo = loop_lo d test F {f = f} z l m h g G lt x; alive = loop_alive d test F G x (omega arith) z l less_none }
 
 -- peek and many
-peek_yes : {X : Type 0} (test : ℕ → Bool) (P R : Parser X) (ts : List Tok) → test (kind_at ts) ≡ true → peek test P R ts ≡ P ts
-unfolding peek
-peek_yes test P R ts h = rw h refl
-
-peek_no : {X : Type 0} (test : ℕ → Bool) (P R : Parser X) (ts : List Tok) → test (kind_at ts) ≡ false → peek test P R ts ≡ R ts
-unfolding peek
-peek_no test P R ts h = rw h refl
-
 module _ {X : Type 0} {Q : ℕ → Bool} (test : ℕ → Bool) (P R : Parser X) where
-  goes_in : {w v : Bool} {ts : List Tok} {o : Out X} → w ≡ true → test (kind_at ts) ≡ true → Lo Q P ts w o → Lo Q (peek test P R) ts v o
-  goes_in i h (done0 f) = never (sym i)
-  goes_in i h (done1 u pre e f) = done1 u pre e (λ s z all r n. gets_by (peek_yes test P R all (ap test (front_kind e r) ∙ h)) (f s z all r n))
-  goes_in i h (bad0 f) = bad0 (λ z n. fails_by (peek_yes test P R z (ap test n ∙ h)) (f z n))
-  goes_in i h (bad1 u pre c x e f g) =
-      bad1 u pre c x e (λ z all r n. fails_by (peek_yes test P R all (ap test (front_kind e r) ∙ h)) (f z all r n)) (λ z all r n. peek_yes test P R all (ap test (front_kind e r) ∙ h) ∙ g z all r n)
-  goes_in i h (over pre c x u e r k f) =
-      over pre c x u e r (λ v z all j n w. fails_by (peek_yes test P R all (ap test (head_kind e j n) ∙ h)) (k v z all j n w)) (λ z all j n. peek_yes test P R all (ap test (head_kind e j (over_symbol r)) ∙ h) ∙ f z all j n)
-  goes_in i h gas = gas
+  goes_in : {ts : List Tok} {o : Out X} → test (kind_at ts) ≡ true → Lo Q P ts true o → Lo Q (peek test P R) ts true o
+  unfolding peek
+  goes_in h = along (λ z e. cond-true _ _ _ (ap test e ∙ h)) never
 
   goes_by : {ts : List Tok} (x : X) → test (kind_at ts) ≡ false → Less test Q → ((z : List Tok) → R z ≡ out_done x z) → Lo Q (peek test P R) ts false (out_done x ts)
-  goes_by {ts = ts} x h l f = done0 (λ z n. peek_no test P R z (stops z n) ∙ f z)
-    where
-      stops : (z : List Tok) → Near Q ts z → test (kind_at z) ≡ false
-      stops z (same e) = ap test e ∙ h
-      stops z (stop e) = l.so _ e
+  unfolding peek
+  goes_by x h l f = done0 (λ z n. cond-false _ _ _ (stays h l z n) ∙ f z)
 
 module _ {X Y : Type 0} {Q : ℕ → Bool} (test : ℕ → Bool) (P : Parser X) (none : Y) (more : X → Y → Y) where
   pub many_alive : {T : ℕ → Bool} (g : ℕ) → 0 < g → Less test Q → Less T Q → Alive false T Q (many test P none more g)
-  unfolding many
+  unfolding many peek
   many_alive zero h l m = absurd (omega arith)
-  many_alive (suc g) h l m =
-      record { c = []; x = none; at = 0; begins = λ e. never (sym e); reads = λ z q. peek_no test (after P (λ x. after (many test P none more g) (λ xs. ret (more x xs)))) (ret none) z (l.so _ q); first = λ z q. m.so _ q }
+  many_alive (suc g) h l m = empty_alive none (λ z q. cond-false _ _ _ (l.so _ q)) m
 
   pub many_lo : {S : ℕ → Bool} {p : Parser X} → Less test Q → Less S Q → Good S true p P → (g G : ℕ) → g < G → (ts : List Tok) → Lo Q (many test P none more G) ts false (many test p none more g ts)
   unfolding many peek
@@ -575,9 +554,9 @@ module _ {X Y : Type 0} {Q : ℕ → Bool} (test : ℕ → Bool) (P : Parser X) 
       by : (b : Bool) → test (kind_at ts) ≡ b → Good Q false (many test p none more g) (many test P none more G)
           → Lo Q (peek test (after P (λ x. after (many test P none more G) (λ xs. ret (more x xs)))) (ret none)) ts false (cond b (after p (λ x. after (many test p none more g) (λ xs. ret (more x xs))) ts) (out_done none ts))
       by true e k =
-          goes_in test _ (ret none) refl e
+          looser (goes_in test _ (ret none) e
           (after_lo P (λ x. after (many test P none more G) (λ xs. ret (more x xs))) (λ e. m) {p = p} h.lo
-          (λ x. after_alive (many test P none more G) (λ xs. ret (more x xs)) (many_alive G (omega arith) l m) (ret_alive _ less_refl)) (λ x. (map (more x) k).lo) ts)
+          (λ x. after_alive (many test P none more G) (λ xs. ret (more x xs)) (many_alive G (omega arith) l m) (ret_alive _ less_refl)) (λ x. (map (more x) k).lo) ts))
       by false e k = goes_by test _ (ret none) none e l (λ z. refl)
 
 pub many_good : {X Y : Type 0} {S Q : ℕ → Bool} (g G : ℕ) → g < G → (test : ℕ → Bool) {p P : Parser X} (none : Y) (more : X → Y → Y) → Less test Q → Less S Q → Good S true p P
@@ -598,41 +577,27 @@ module _ {X Y : Type 0} {S Q : ℕ → Bool} (d : ℕ) (P : Parser X) (none : Y)
   separated_good l m h (suc g) (suc G) lt =
       let k = separated_good l m h g G (omega arith) in
       seq (λ e. m) h (λ x. opt_alive d (is (mark sign.Comma)) _ _ (mark_sharp sign.Comma) (less_is Q (mark sign.Comma) l) m)
-      (λ x. on_lo d (is (mark sign.Comma)) _ _ (mark_sharp sign.Comma) (λ e. less_is Q (mark sign.Comma) l) (λ i. (map (more x) k).alive) (λ i. (weak (map (more x) k)).lo) (ret_lo (more x none)))
+      (λ x. takes_lo d (is (mark sign.Comma)) (mark_sharp sign.Comma) (λ e. less_is Q (mark sign.Comma) l) (λ i. map (more x) k) (ret_lo (more x none)))
 
 -- the end
 abbrev pub not_end : ℕ → Bool
-not_end k = cond (eqb k 0) false true
-
-at_end : (k : ℕ) → not_end k ≡ false → k ≡ 0
-at_end k h = by (eqb_tells k 0)
-  where
-    by : ((eqb k 0 ≡ true) × (k ≡ 0)) ⊎ ((eqb k 0 ≡ false) × (k ≡ 0 → ⊥)) → k ≡ 0
-    by (inl p) = p.1
-    by (inr p) = never (rw p.0 at h)
+not_end k = not (eqb k 0)
 
 pub less_end : (S : ℕ → Bool) → S 0 ≡ false → Less S not_end
-less_end S h = record { so = λ k e. ap S (at_end k e) ∙ h }
-
-ends_yes : {X : Type 0} (x : X) (z : List Tok) → eqb (kind_at z) 0 ≡ true → ends x z ≡ out_done x z
-unfolding ends
-ends_yes x z h = rw h refl
-
-ends_no : {X : Type 0} (x : X) (z : List Tok) → eqb (kind_at z) 0 ≡ false → ends x z ≡ out_fail z why_bad
-unfolding ends
-ends_no x z h = rw h refl
+less_end S h = record { so = λ k e. ap S (eqb-true k 0 (not-false _ e)) ∙ h }
 
 pub ends_lo : {X : Type 0} (x : X) (ts : List Tok) → Lo not_end (ends x) ts false (ends x ts)
 unfolding ends
 ends_lo x ts = by (eqb (kind_at ts) 0) refl
   where
     by : (b : Bool) → eqb (kind_at ts) 0 ≡ b → Lo not_end (ends x) ts false (cond b (out_done x ts) (out_fail ts why_bad))
-    by true h = done0 (λ z n. ends_yes x z (near z n))
+    by true h = done0 (λ z n. cond-true _ _ _ (near z n))
       where
         near : (z : List Tok) → Near not_end ts z → eqb (kind_at z) 0 ≡ true
         near z (same e) = ap (λ k. eqb k 0) e ∙ h
-        near z (stop e) = ap (λ k. eqb k 0) (at_end _ e)
-    by false h = bad0 (λ z e. fails (ends_no x z (ap (λ k. eqb k 0) e ∙ h)))
+        near z (stop e) = not-false _ e
+    by false h = bad0 (λ z e. fails (cond-false _ _ _ (ap (λ k. eqb k 0) e ∙ h)))
 
 pub ends_alive : {X : Type 0} {S : ℕ → Bool} (x : X) → S 0 ≡ false → Alive false S not_end (ends x)
-ends_alive {S = S} x s = record { c = []; x = x; at = 0; begins = λ e. never (sym e); reads = λ z q. ends_yes x z (ap (λ k. eqb k 0) (at_end _ q)); first = λ z q. (less_end S s).so _ q }
+unfolding ends
+ends_alive {S = S} x s = empty_alive x (λ z q. cond-true _ _ _ (not-false _ q)) (less_end S s)

@@ -1,5 +1,6 @@
 -- The reader of expressions and conditions looks no further, and can be completed. Assumes nothing.
-use Rattle.std.proofs.Common.{◌≡◌, ℕ, zero, suc, ◌+◌, ◌<◌, Bool, true, false, cond, eqb, List, refl, arith, ne_eqb, eqb-true}
+use Rattle.std.proofs.Common.{◌≡◌, ℕ, zero, suc, ◌+◌, ◌<◌, Bool, true, false, not, ◌||◌, eqb, List, refl, arith, eqb-true}
+use Rattle.std.proofs.lemmas.Bool.{not-false, or_parts}
 use Rattle.script.specs.declared.types.Name.{Name}
 use Rattle.script.specs.declared.types.«Type».{«Type» as Ty}
 use Rattle.script.specs.Tree as tree
@@ -10,51 +11,33 @@ use Rattle.tokens.specs.Spelling.{constant, keyword, mark, Item}
 use Rattle.grammar.specs.Tokens.{Tok}
 use Rattle.grammar.specs.Combine.{kind, is, Parser, after, ret, bad, on, loop, listed}
 use Rattle.grammar.specs.Parse.{is_name, is_constant, is_type, binding, operates, compares, joining, joins, name_of, type_of, operator_of, comparison_of, join_of, Thing, thing_expr, thing_cond, Got, got, Found, found, binary, goes, level, actuals, named, cast_to, grouped, operand_by, operand, expression, compared, tested, negation_by, joined, holds, condition_by, negation, condition}
-use Rattle.grammar.proofs.Symbols.{never, mark_sharp, operates_sharp, joins_sharp}
-use Rattle.grammar.proofs.Local.{Lo, Alive, Less, no_kind, looser, ret_lo, bad_lo, ret_alive, on_lo, on_alive, else_alive, after_alive, from_alive, Good, less_is, less_refl, less_none, seq, seq_from, map, gas_good, weak, wide, wide_alive, wants, closing, loop_alive, loop_good, separated_good}
+use Rattle.grammar.proofs.Symbols.{never, mark_sharp, operates_sharp, joins_sharp, no_level}
+use Rattle.grammar.proofs.Local.{Lo, Alive, Less, no_kind, looser, ret_lo, bad_lo, ret_alive, takes_lo, ret_good, on_alive, else_alive, after_alive, from_alive, Good, less_is, less_refl, less_none, seq, seq_from, map, gas_good, wide, wide_alive, wants, closing, loop_alive, loop_good, separated_good}
 
 -- the kinds that go on with an expression, with actuals, and with a thing
 abbrev pub ends_expression : ℕ → Bool
-ends_expression k = cond (is (mark sign.LeftParen) k) true (cond (eqb (binding k) 0) false true)
+ends_expression k = is (mark sign.LeftParen) k || not (eqb (binding k) 0)
 
 abbrev pub ends_actual : ℕ → Bool
-ends_actual k = cond (ends_expression k) true (is (mark sign.Comma) k)
+ends_actual k = ends_expression k || is (mark sign.Comma) k
 
 abbrev pub ends_test : ℕ → Bool
-ends_test k = cond (ends_expression k) true (cond (compares k) true (cond (eqb (joining k) 0) false true))
-
-pub or_left : (a b : Bool) → cond a true b ≡ false → a ≡ false
-or_left true b e = e
-or_left false b e = refl
-
-pub or_right : (a b : Bool) → cond a true b ≡ false → b ≡ false
-or_right true b e = never e
-or_right false b e = e
-
-pub is_zero : (n : ℕ) → cond (eqb n 0) false true ≡ false → n ≡ 0
-is_zero n e = by (eqb n 0) refl e
-  where
-    by : (b : Bool) → eqb n 0 ≡ b → cond b false true ≡ false → n ≡ 0
-    by true i e = eqb-true n 0 i
-    by false i e = never e
-
-no_level : (n k : ℕ) → k ≡ 0 → eqb k (suc n) ≡ false
-no_level n k e = ne_eqb k (suc n) (λ i. omega arith)
+ends_test k = ends_expression k || (compares k || not (eqb (joining k) 0))
 
 ea : Less ends_expression ends_actual
-ea = record { so = λ k e. or_left (ends_expression k) _ e }
+ea = record { so = λ k e. (or_parts (ends_expression k) _ e).0 }
 
 et : Less ends_expression ends_test
-et = record { so = λ k e. or_left (ends_expression k) _ e }
+et = record { so = λ k e. (or_parts (ends_expression k) _ e).0 }
 
 operates_less : (n : ℕ) → Less (operates (suc n)) ends_expression
-operates_less n = record { so = λ k e. no_level n (binding k) (is_zero (binding k) (or_right (is (mark sign.LeftParen) k) _ e)) }
+operates_less n = record { so = λ k e. no_level n (binding k) (eqb-true (binding k) 0 (not-false _ (or_parts (is (mark sign.LeftParen) k) _ e).1)) }
 
 compares_less : Less compares ends_test
-compares_less = record { so = λ k e. or_left (compares k) _ (or_right (ends_expression k) _ e) }
+compares_less = record { so = λ k e. (or_parts (compares k) _ (or_parts (ends_expression k) _ e).1).0 }
 
 joins_less : (n : ℕ) → Less (joins (suc n)) ends_test
-joins_less n = record { so = λ k e. no_level n (joining k) (is_zero (joining k) (or_right (compares k) _ (or_right (ends_expression k) _ e))) }
+joins_less n = record { so = λ k e. no_level n (joining k) (eqb-true (joining k) 0 (not-false _ (or_parts (compares k) _ (or_parts (ends_expression k) _ e).1).1)) }
 
 -- after an expression of a thing
 goes_alive : (m : Bool) (K : Expr → Parser Expr) → ((e : Expr) → Alive false ends_expression ends_expression (K e)) → (x : Got m) → Alive false ends_expression ends_expression (goes m K x)
@@ -83,7 +66,7 @@ pub listed_good : {X Y : Type 0} {S Q : ℕ → Bool} (T : ℕ → Bool) (d g G 
 listed_good {S = S} T d g G lt p P y f r c l h =
     record {
       lo =
-          on_lo d (is (mark sign.RightParen)) _ _ (mark_sharp sign.RightParen) never (λ i. ret_alive y less_none) (λ i. ret_lo y) (closing d sign.RightParen (λ xs. xs) r (separated_good {S = S} {Q = T} (suc d) P y f c l h g G lt)).lo;
+          takes_lo d (is (mark sign.RightParen)) (mark_sharp sign.RightParen) never (λ i. ret_good y) (closing d sign.RightParen (λ xs. xs) r (separated_good {S = S} {Q = T} (suc d) P y f c l h g G lt)).lo;
       alive = on_alive d (is (mark sign.RightParen)) _ _ (mark sign.RightParen) refl refl (λ i. ret_alive y less_none);
     }
 
@@ -109,7 +92,7 @@ module _ (g G : ℕ) (lt : g < G) where
   named_good : (d : ℕ) (s S : Parser Expr) (x : Name) → Good ends_expression true s S → Good ends_expression false (named d g s x) (named d G S x)
   named_good d s S x h =
       record {
-        lo = on_lo d (is (mark sign.LeftParen)) _ _ (refl, refl) (λ e. less_is ends_expression (mark sign.LeftParen) refl) (λ i. call.alive) (λ i. (weak call).lo) (ret_lo (tree.variable x));
+        lo = takes_lo d (is (mark sign.LeftParen)) (refl, refl) (λ e. less_is ends_expression (mark sign.LeftParen) refl) (λ i. call) (ret_lo (tree.variable x));
         alive = on_alive d (is (mark sign.LeftParen)) _ _ (mark sign.LeftParen) refl refl (λ i. call.alive);
       }
     where
@@ -124,11 +107,11 @@ module _ (g G : ℕ) (lt : g < G) where
   operand_by_good m d p P s S q Q r h k j =
       record {
         lo =
-            on_lo d is_constant _ _ (refl, refl) never (λ i. ret_alive _ less_none) (λ i. ret_lo _)
-            (on_lo d is_name _ _ (refl, refl) never (λ i. (names i).alive) (λ i. (names i).lo)
-            (on_lo d (is (keyword word.Nil)) _ _ (refl, refl) never (λ i. ret_alive _ less_none) (λ i. ret_lo _)
-            (on_lo d (is (mark sign.Minus)) _ _ (refl, refl) never (λ i. (minus i).alive) (λ i. (weak (minus i)).lo)
-            (on_lo d (is (mark sign.LeftParen)) _ _ (refl, refl) never (λ i. (paren i).alive) (λ i. (weak (paren i)).lo)
+            takes_lo d is_constant (refl, refl) never (λ i. ret_good _)
+            (takes_lo d is_name (refl, refl) never names
+            (takes_lo d (is (keyword word.Nil)) (refl, refl) never (λ i. ret_good _)
+            (takes_lo d (is (mark sign.Minus)) (refl, refl) never minus
+            (takes_lo d (is (mark sign.LeftParen)) (refl, refl) never paren
             bad_lo))));
         alive = on_alive d is_constant _ _ (constant 0) refl refl (λ i. ret_alive _ less_none);
       }
@@ -146,7 +129,7 @@ module _ (g G : ℕ) (lt : g < G) where
       group = closing d sign.RightParen (λ x. x) r j
 
       paren : (i : Item) → Good ends_expression true (on d is_type (λ j. cast_to m d p i.at (type_of j.symbol)) (grouped d q)) (on d is_type (λ j. cast_to m d P i.at (type_of j.symbol)) (grouped d Q))
-      paren i = record { lo = on_lo d is_type _ _ (refl, refl) never (λ j. (casts i j).alive) (λ j. (weak (casts i j)).lo) group.lo; alive = on_alive d is_type _ _ (keyword word.Int) refl refl (λ j. (casts i j).alive) }
+      paren i = record { lo = takes_lo d is_type (refl, refl) never (λ j. casts i j) group.lo; alive = on_alive d is_type _ _ (keyword word.Int) refl refl (λ j. (casts i j).alive) }
 
   -- a condition may stand here, or must
   compared_alive : {v : Bool} (m : Bool) (d : ℕ) (S : Parser Expr) (e : Expr) (R : Parser (Found m)) → Alive v no_kind ends_expression S → Alive false ends_expression ends_test (compared m d S e R)
@@ -163,13 +146,13 @@ module _ (g G : ℕ) (lt : g < G) where
 
   tested_lo : (m : Bool) (d : ℕ) (s S : Parser Expr) → Good ends_expression true s S → (x : Thing) (ts : List Tok) → Lo ends_test (tested m d S x) ts false (tested m d s x ts)
   tested_lo m d s S h (thing_cond c) ts = ret_lo (found m c) ts
-  tested_lo true d s S h (thing_expr e) ts = looser (on_lo d compares _ _ {w = true} (refl, refl) never (λ i. (right_good true e h i).alive) (λ i. (weak (right_good true e h i)).lo) bad_lo ts)
-  tested_lo false d s S h (thing_expr e) ts = on_lo d compares _ _ (refl, refl) (λ i. compares_less) (λ i. (right_good false e h i).alive) (λ i. (weak (right_good false e h i)).lo) (ret_lo (thing_expr e)) ts
+  tested_lo true d s S h (thing_expr e) ts = looser (takes_lo {w = true} d compares (refl, refl) never (λ i. right_good true e h i) bad_lo ts)
+  tested_lo false d s S h (thing_expr e) ts = takes_lo d compares (refl, refl) (λ i. compares_less) (λ i. right_good false e h i) (ret_lo (thing_expr e)) ts
 
   negation_by_good : (m : Bool) (d : ℕ) (t T : Parser Thing) (s S : Parser Expr) (n N : Parser Cond) → Good ends_expression true t T → Good ends_expression true s S → Good ends_test true n N → Good ends_test true (negation_by m d t s n) (negation_by m d T S N)
   negation_by_good m d t T s S n N h k j =
       record {
-        lo = on_lo d (is (mark sign.Not)) _ _ (refl, refl) never (λ i. (nots i).alive) (λ i. (weak (nots i)).lo) (seq (λ e. et) h (tested_alive m d S k.alive) (tested_lo m d s S k)).lo;
+        lo = takes_lo d (is (mark sign.Not)) (refl, refl) never nots (seq (λ e. et) h (tested_alive m d S k.alive) (tested_lo m d s S k)).lo;
         alive = on_alive d (is (mark sign.Not)) _ _ (mark sign.Not) refl refl (λ i. (nots i).alive);
       }
     where
@@ -178,10 +161,6 @@ module _ (g G : ℕ) (lt : g < G) where
 
   joined_good : {p P : Parser Cond} → Good ends_test true p P → (c : Cond) (i : Item) → Good ends_test true (joined p c i) (joined P c i)
   joined_good h c i = map (λ e. join_of i.symbol i.at c e) h
-
-  condition_by_alive : (m : Bool) (d : ℕ) {S : ℕ → Bool} (A : Parser (Found m)) (P : Parser Cond) (n : ℕ) → Alive true S ends_test A → Alive true S ends_test (condition_by m d G A P n)
-  condition_by_alive m d A P zero a = a
-  condition_by_alive m d A P (suc n) a = after_alive (condition_by m d G A P n) _ (condition_by_alive m d A P n a) (holds_alive m _ (λ c. loop_alive d _ _ G c (omega arith) (joins_sharp n) (joins_less n) less_refl) _)
 
   condition_by_good : (m : Bool) (d : ℕ) (a A : Parser (Found m)) (p P : Parser Cond) (n : ℕ) → Good ends_test true a A → Good ends_test true p P → Good ends_test true (condition_by m d g a p n) (condition_by m d G A P n)
   condition_by_good m d a A p P zero h k = h

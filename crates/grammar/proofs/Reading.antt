@@ -1,5 +1,6 @@
 -- A condition, a statement and a program that is derived is read. Assumes nothing.
 use Rattle.std.proofs.Common.{◌≡◌, ℕ, zero, suc, ◌+◌, ◌-◌, ◌≤◌, Bool, true, false, eqb, List, [], ◌∷◌, sym, refl, ap, ◌∙◌, arith}
+use Rattle.std.proofs.lemmas.Bool.{false_from_ne_true, or_parts}
 use Rattle.script.specs.declared.types.«Type».{«Type» as Ty}
 use Rattle.script.specs.declared.types.Name.{Name}
 use Rattle.script.specs.declared.types.Declarator.{Declarator}
@@ -16,9 +17,8 @@ use Rattle.grammar.specs.Combine.{kind, kind_at, is, out_done, Parser, next, aft
 use Rattle.grammar.specs.Parse.{is_name, is_type, declares, compares, joins, begins, name_of, type_of, join_of, Thing, thing_expr, thing_cond, Found, found, typed, declarator, level, actuals, operand, expression, tested, joined, holds, condition_by, negation, condition, ended, declaration, assignment, otherwise, tests, statement_by, statement, statements, formals, function, program}
 use Rattle.grammar.proofs.Symbols.{joins_sharp, only, comparison_is, comparison_tests}
 use Rattle.grammar.proofs.Local.{on_else}
-use Rattle.grammar.proofs.Reader.{or_left}
 use Rattle.grammar.proofs.Sound.{Functions, no_function, one_function, Whole}
-use Rattle.grammar.proofs.Complete.{Gives, after_is, from_is, take, skip, wanted, loop_go, loop_end, apart, cont, cont_c, lower_c, above_c, comparison_stops, heads, heads_c, headed, headed_c, group_in, type_is, level_by, Lists, lists_last, lists_more, listed_none, listed_some, negation_gives, comp, all_actuals}
+use Rattle.grammar.proofs.Complete.{Gives, at_kind, after_is, from_is, take, skip, wanted, loop_go, loop_end, apart, cont, cont_c, lower_c, above_c, comparison_stops, heads, heads_c, headed, headed_c, group_in, type_is, level_by, Lists, lists_last, lists_more, listed_none, listed_some, negation_gives, comp, all_actuals}
 
 -- conditions
 tested_is : (m : Bool) (d : ℕ) (s : Parser Expr) (e f : Expr) (t : Tok) (mid rest : List Tok) (o : Comparison) → Is d (mark (comparison_mark o)) t → s mid ≡ out_done f rest
@@ -94,22 +94,22 @@ reach_end m n d ts c rest r st =
 mutual
   pub conds : (m : Bool) {n d : ℕ} {ts : List Tok} {c : Cond} {rest : List Tok} → Condition n d ts c rest → cont_c n (kind_at rest) ≡ false → Gives (λ g. level_in m n d g) ts (found m c) rest
   conds m (rule.compared {d = d} {t = t} {ts = ts} {mid = mid} {rest = rest} {e = e} {f = f} o x i y) st =
-      compared_gives m d t ts mid rest e f o (apart heads (mark sign.Not) (kind_at ts) refl (headed x)) i (comp true x (ap (λ s. cont 3 (kind s)) i.symbol ∙ comparison_stops o)) (comp false y (or_left (cont 3 (kind_at rest)) _ st))
+      compared_gives m d t ts mid rest e f o (apart heads (mark sign.Not) (kind_at ts) refl (headed x)) i (comp true x (at_kind (cont 3) i ∙ comparison_stops o)) (comp false y (or_parts (cont 3 (kind_at rest)) _ st).0)
   conds m (rule.negated {d = d} {t = t} {ts = ts} {rest = rest} {c = c} i x) st = negated_gives m d t ts rest c i (conds true x st)
-  conds m (rule.group {d = d} {t = t} {u = u} {ts = ts} {rest = rest} {c = c} i x k) st = group_gives m d t u ts rest c i k (headed_c x) (conds false x (ap (λ s. cont_c 2 (kind s)) k.symbol))
+  conds m (rule.group {d = d} {t = t} {u = u} {ts = ts} {rest = rest} {c = c} i x k) st = group_gives m d t u ts rest c i k (headed_c x) (conds false x (at_kind (cont_c 2) k))
   conds m (rule.looser {k = n} {d = d} {ts = ts} {rest = rest} {c = c} l x) st =
       reach_end m n d ts c rest (reach_start m n d ts c rest (conds m x (lower_c n (kind_at rest) st))) (above_c n (kind_at rest) st)
   conds m (rule.both {d = d} {t = t} {ts = ts} {mid = mid} {rest = rest} {c = c} {e = e} x i y) st =
-      reach_end m 0 d ts _ rest (reach_grow m 0 d ts mid rest c e t (mark sign.AndAnd) (reach m x (ap (λ s. cont_c 0 (kind s)) i.symbol)) refl i (conds true y (lower_c 0 (kind_at rest) st))) (above_c 0 (kind_at rest) st)
+      reach_end m 0 d ts _ rest (reach_grow m 0 d ts mid rest c e t (mark sign.AndAnd) (reach m x (at_kind (cont_c 0) i)) refl i (conds true y (lower_c 0 (kind_at rest) st))) (above_c 0 (kind_at rest) st)
   conds m (rule.either {d = d} {t = t} {ts = ts} {mid = mid} {rest = rest} {c = c} {e = e} x i y) st =
-      reach_end m 1 d ts _ rest (reach_grow m 1 d ts mid rest c e t (mark sign.OrOr) (reach m x (ap (λ s. cont_c 1 (kind s)) i.symbol)) refl i (conds true y (lower_c 1 (kind_at rest) st))) (above_c 1 (kind_at rest) st)
+      reach_end m 1 d ts _ rest (reach_grow m 1 d ts mid rest c e t (mark sign.OrOr) (reach m x (at_kind (cont_c 1) i)) refl i (conds true y (lower_c 1 (kind_at rest) st))) (above_c 1 (kind_at rest) st)
 
   reach : (m : Bool) {n d : ℕ} {ts : List Tok} {c : Cond} {rest : List Tok} → Condition (suc n) d ts c rest → cont_c n (kind_at rest) ≡ false → Reach m n d ts c rest
   reach m (rule.looser {k = n} {d = d} {ts = ts} {rest = rest} {c = c} l x) st = reach_start m n d ts c rest (conds m x st)
   reach m (rule.both {d = d} {t = t} {ts = ts} {mid = mid} {rest = rest} {c = c} {e = e} x i y) st =
-      reach_grow m 0 d ts mid rest c e t (mark sign.AndAnd) (reach m x (ap (λ s. cont_c 0 (kind s)) i.symbol)) refl i (conds true y st)
+      reach_grow m 0 d ts mid rest c e t (mark sign.AndAnd) (reach m x (at_kind (cont_c 0) i)) refl i (conds true y st)
   reach m (rule.either {d = d} {t = t} {ts = ts} {mid = mid} {rest = rest} {c = c} {e = e} x i y) st =
-      reach_grow m 1 d ts mid rest c e t (mark sign.OrOr) (reach m x (ap (λ s. cont_c 1 (kind s)) i.symbol)) refl i (conds true y st)
+      reach_grow m 1 d ts mid rest c e t (mark sign.OrOr) (reach m x (at_kind (cont_c 1) i)) refl i (conds true y st)
 
 -- declarations
 typed_is : (d : ℕ) (m : Bool) (t u : Tok) (ts : List Tok) (ty : Ty) (x : Name) → Is d (keyword (type_word ty)) t → IsName d x u → typed d m (t ∷ u ∷ ts) ≡ out_done (record { mutable = m; ty = ty; name = x }) ts
@@ -130,8 +130,8 @@ type_declares : (ty : Ty) → declares (kind (keyword (type_word ty))) ≡ true
 type_declares ty = rw (not_mutable ty) (type_is ty).0
 
 declares_at : {d : ℕ} {ts rest : List Tok} {x : Declarator} → Declares d ts x rest → declares (kind_at ts) ≡ true
-declares_at (rule.immutable {ty = ty} i n) = ap (λ s. declares (kind s)) i.symbol ∙ type_declares ty
-declares_at (rule.mutable k i n) = ap (λ s. declares (kind s)) k.symbol
+declares_at (rule.immutable {ty = ty} i n) = at_kind declares i ∙ type_declares ty
+declares_at (rule.mutable k i n) = at_kind declares k
 
 -- statements
 ended_is : (d : ℕ) (e : Parser Expr) (f : Expr → Stmt) (ts : List Tok) (x : Expr) (t : Tok) (rest : List Tok) → e ts ≡ out_done x (t ∷ rest) → Is d (mark sign.Semicolon) t → ended d e f ts ≡ out_done (f x) rest
@@ -259,22 +259,18 @@ begins_at {ts = ts} (rule.declares x a e c) = starts (kind_at ts) (declares_at x
           apart declares (keyword word.Return) k refl h,
           apart declares (mark sign.LeftBrace) k refl h,
         ) h
-begins_at (rule.assigns i u e c) = ap (λ s. begins (kind s)) i.is.symbol
-begins_at (rule.calls i u a v w) = ap (λ s. begins (kind s)) i.is.symbol
-begins_at (rule.if_then i u c v y n) = ap (λ s. begins (kind s)) i.symbol
-begins_at (rule.if_else i u c v y w z) = ap (λ s. begins (kind s)) i.symbol
-begins_at (rule.while i u c v y) = ap (λ s. begins (kind s)) i.symbol
-begins_at (rule.free i e c) = ap (λ s. begins (kind s)) i.symbol
-begins_at (rule.print i e c) = ap (λ s. begins (kind s)) i.symbol
-begins_at (rule.return i e c) = ap (λ s. begins (kind s)) i.symbol
-begins_at (rule.block i b c) = ap (λ s. begins (kind s)) i.symbol
+begins_at (rule.assigns i u e c) = at_kind begins i.is
+begins_at (rule.calls i u a v w) = at_kind begins i.is
+begins_at (rule.if_then i u c v y n) = at_kind begins i
+begins_at (rule.if_else i u c v y w z) = at_kind begins i
+begins_at (rule.while i u c v y) = at_kind begins i
+begins_at (rule.free i e c) = at_kind begins i
+begins_at (rule.print i e c) = at_kind begins i
+begins_at (rule.return i e c) = at_kind begins i
+begins_at (rule.block i b c) = at_kind begins i
 
 no_else : (ts : List Tok) → (first ts ≡ keyword word.Else → ⊥) → is (keyword word.Else) (kind_at ts) ≡ false
-no_else ts n = by (is (keyword word.Else) (kind_at ts)) refl
-  where
-    by : (b : Bool) → is (keyword word.Else) (kind_at ts) ≡ b → b ≡ false
-    by true e = absurd (n (only (keyword word.Else) (first ts) refl e))
-    by false e = refl
+no_else ts n = false_from_ne_true _ (λ e. n (only (keyword word.Else) (first ts) refl e))
 
 block_gives : (d : ℕ) (t u : Tok) (ts rest : List Tok) (b : Stmts) → Is d (mark sign.LeftBrace) t → Rows begins (λ g. statement g (suc d)) tree.end tree.next ts b (u ∷ rest)
     → Is d (mark sign.RightBrace) u → Gives (λ g. statement g d) (t ∷ ts) (tree.block t.at b) rest
@@ -287,10 +283,10 @@ ended_gives d t u ts rest e f h r c = statement_gives d r.gas (t ∷ ts) _ rest 
 
 -- a semicolon and a closing parenthesis end what stands before them
 abbrev semicolon : {d : ℕ} {t : Tok} → Is d (mark sign.Semicolon) t → cont 3 (kind t.symbol) ≡ false
-semicolon c = ap (λ s. cont 3 (kind s)) c.symbol
+semicolon c = at_kind (cont 3) c
 
 abbrev parenthesis : {d : ℕ} {t : Tok} → Is d (mark sign.RightParen) t → cont_c 2 (kind t.symbol) ≡ false
-parenthesis c = ap (λ s. cont_c 2 (kind s)) c.symbol
+parenthesis c = at_kind (cont_c 2) c
 
 mutual
   pub stmt : {d : ℕ} {ts : List Tok} {x : Stmt} {rest : List Tok} → Statement d ts x rest → Gives (λ g. statement g d) ts x rest
@@ -304,7 +300,7 @@ mutual
   stmt (rule.free {d = d} {t = t} {u = u} {ts = ts} {rest = rest} {e = e} i k c) = ended_gives d t u ts rest e (tree.free t.at) (λ g. free_in d g _ _ _ _ _ t ts i) (comp false k (semicolon c)) c
   stmt (rule.print {d = d} {t = t} {u = u} {ts = ts} {rest = rest} {e = e} i k c) = ended_gives d t u ts rest e (tree.print t.at) (λ g. print_in d g _ _ _ _ _ t ts i) (comp false k (semicolon c)) c
   stmt (rule.return {d = d} {t = t} {u = u} {ts = ts} {rest = rest} {e = e} i k c) = ended_gives d t u ts rest e (tree.return t.at) (λ g. return_in d g _ _ _ _ _ t ts i) (comp false k (semicolon c)) c
-  stmt (rule.block {d = d} {t = t} {u = u} {ts = ts} {rest = rest} {b = b} i k c) = block_gives d t u ts rest b i (stmts k (ap (λ s. begins (kind s)) c.symbol)) c
+  stmt (rule.block {d = d} {t = t} {u = u} {ts = ts} {rest = rest} {b = b} i k c) = block_gives d t u ts rest b i (stmts k (at_kind begins c)) c
 
   pub stmts : {d : ℕ} {ts : List Tok} {b : Stmts} {rest : List Tok} → Statements d ts b rest → begins (kind_at rest) ≡ false → Rows begins (λ g. statement g d) tree.end tree.next ts b rest
   stmts {d = d} (rule.no_statement {ts = ts}) st = rows_end begins (λ g. statement g d) tree.end tree.next ts st
@@ -325,7 +321,7 @@ formals_begin {ts = ts} (rule.next_formal h c k) = apart declares (mark sign.Rig
 all_formals : {ts : List Tok} {xs : List Declarator} {t : Tok} {rest : List Tok} → Formals 1 ts xs (t ∷ rest) → Is 0 (mark sign.RightParen) t → Gives (λ g. formals g) ts xs rest
 all_formals {t = t} {rest = rest} rule.no_formal c = listed_none 0 (λ g. declarator 1) [] (λ x xs. x ∷ xs) t rest c
 all_formals {ts = ts} {xs = xs} {t = t} {rest = rest} (rule.formals k) c =
-    listed_some 0 (λ g. declarator 1) [] (λ x xs. x ∷ xs) t ts rest xs (formals_begin k) (some_formals k (ap (λ s. is (mark sign.Comma) (kind s)) c.symbol)) c
+    listed_some 0 (λ g. declarator 1) [] (λ x xs. x ∷ xs) t ts rest xs (formals_begin k) (some_formals k (at_kind (is (mark sign.Comma)) c)) c
 
 function_gives : (t v w : Tok) (ts mid far rest : List Tok) (h : Declarator) (xs : List Declarator) (b : Stmts) → Declares 0 ts h (t ∷ mid) → Is 0 (mark sign.LeftParen) t
     → Gives (λ g. formals g) mid xs (v ∷ far) → Is 0 (mark sign.LeftBrace) v → Rows begins (λ g. statement g 1) tree.end tree.next far b (w ∷ rest) → Is 0 (mark sign.RightBrace) w
@@ -339,7 +335,7 @@ function_gives t v w ts mid far rest h xs b k l f o r c =
 
 func : {ts rest : List Tok} {f : Fun} → Function ts f rest → Gives (λ g. function g) ts f rest
 func (rule.function {head = h} {xs = xs} {b = b} {t = t} {v = v} {w = w} {ts = ts} {mid = mid} {more = far} {rest = rest} k l f r o s c) =
-    function_gives t v w ts mid far rest h xs b k l (all_formals f r) o (stmts s (ap (λ s. begins (kind s)) c.symbol)) c
+    function_gives t v w ts mid far rest h xs b k l (all_formals f r) o (stmts s (at_kind begins c)) c
 
 function_begins : {ts rest : List Tok} {f : Fun} → Function ts f rest → declares (kind_at ts) ≡ true
 function_begins (rule.function k l f r o s c) = declares_at k

@@ -45,8 +45,8 @@ fin = record { symbol = end; at = 0; deepest = 0; counted = false }
 reads_to : (G : ℕ) (ts : List Tok) (p : Program) → program G ts ≡ out_done p (fin ∷ []) → Programs ts p
 reads_to G ts p e = closes (derived ts p (fin ∷ []) G e).all refl refl
 
-not_read : {X : Type 0} {o : Out X} {x : X} {z : List Tok} → Fails o → o ≡ out_done x z → ⊥
-not_read {x = x} {z = z} (fails {rest = rest} {why = why} f) e = let q : out_done x z ≡ out_fail rest why = sym e ∙ f in absurd (grind arith)
+pub not_read : {X : Type 0} {o : Out X} {x : X} {z : List Tok} → Fails o → o ≡ out_done x z → ⊥
+not_read (fails f) e = cc
 
 -- fronts
 pub eaten_front : {s : Bool} {rest pre ts : List Tok} → Eaten rest pre ts → Front s rest pre ts
@@ -59,10 +59,6 @@ eaten_eq (bite {t = t} n c e) = ap (λ ts. t ∷ ts) (eaten_eq e)
 
 one_way : {rest pre mid ts : List Tok} → Eaten rest pre ts → Eaten rest mid ts → pre ≡ mid
 one_way {rest = rest} {pre = pre} {mid = mid} a b = append_cancel_right pre mid rest (sym (eaten_eq a) ∙ eaten_eq b)
-
-same_self : (ts : List Tok) → SameTokens ts ts
-same_self [] = refusal.none
-same_self (t ∷ ts) = refusal.more refl refl (same_self ts)
 
 depths_self : (ts : List Tok) → SameDepths ts ts
 depths_self [] = refusal.none
@@ -119,13 +115,13 @@ deepened : (pre : List Tok) (t : Tok) {like : List Tok} (z : List Tok) → SameD
 deepened [] t z (refusal.more {u = u} e i d refusal.none) = record { v = u; symbol = e; deepest = d; front = empty }
 deepened (s ∷ pre) t z (refusal.more {u = u} e i k r) = let d = deepened pre t z r in record { v = d.v; symbol = d.symbol; deepest = d.deepest; front = token (record { symbol = e; at = i; self = λ k. never (sym k) }) d.front }
 
-no_over : {t u : Tok} {why : Why} → Over t u why → why ≡ why_bad → ⊥
-no_over (too_deep s i) e = absurd (grind arith)
-no_over (too_many s i d k f) e = absurd (grind arith)
+-- what an outcome says of reading with more gas
+more_gas : (g G : ℕ) → g + 1 < G → {ts : List Tok} {o : Out Program} → program g ts ≡ o → Lo not_end (program G) ts false o
+more_gas g G l {ts = ts} e = subst (Lo not_end (program G) ts false) e ((program_good g G l).lo ts)
 
 -- no program begins with a refused token, whatever the limits of those before it
 dead_bad : (g : ℕ) (ts pre rest : List Tok) → program g ts ≡ out_fail rest why_bad → Eaten rest pre ts → (z all : List Tok) (p : Program) → Front false z pre all → kind_at z ≡ kind_at rest → Programs all p → ⊥
-dead_bad g ts pre rest e i z all p f k w = by (subst (Lo not_end (program G) ts false) e ((program_good g G (omega arith)).lo ts)) refl i k
+dead_bad g ts pre rest e i z all p f k w = by (more_gas g G (omega arith) e) refl i k
   where
     r : Gives (λ g. program g) all p (read w).rest
     r = (read w).gives
@@ -141,12 +137,13 @@ dead_bad g ts pre rest e i z all p f k w = by (subst (Lo not_end (program G) ts 
     by (bad1 t mid c x j h m) y i k =
         let n : pre ≡ t ∷ mid = one_way i j in
         not_read (h z all (subst (λ us. Front false z us all) n f) k) (r.is G (omega arith))
-    by (over mid c x u j o h m) y i k = no_over o y
-    by gas y i k = absurd (grind arith)
+    by (over mid c x u j (too_deep s a) h m) y i k = cc
+    by (over mid c x u j (too_many s a b n l) h m) y i k = cc
+    by gas y i k = cc
 
 dead_deep : (g : ℕ) (ts pre : List Tok) (t : Tok) (rest : List Tok) → program g ts ≡ out_fail (t ∷ rest) why_deep → Eaten (t ∷ rest) pre ts → (v : Tok) (z all : List Tok) (p : Program)
     → Front false (v ∷ z) pre all → v.symbol ≡ t.symbol → v.deepest ≡ t.deepest → Programs all p → ⊥
-dead_deep g ts pre t rest e i v z all p f s d w = by (subst (Lo not_end (program G) ts false) e ((program_good g G (omega arith)).lo ts)) refl refl i
+dead_deep g ts pre t rest e i v z all p f s d w = by (more_gas g G (omega arith) e) refl refl i
   where
     r : Gives (λ g. program g) all p (read w).rest
     r = (read w).gives
@@ -155,13 +152,13 @@ dead_deep g ts pre t rest e i v z all p f s d w = by (subst (Lo not_end (program
     G = r.gas + g + 2
 
     by : {out : List Tok} {why : Why} → Lo not_end (program G) ts false (out_fail out why) → out ≡ t ∷ rest → why ≡ why_deep → Eaten out pre ts → ⊥
-    by (bad0 h) q y i = absurd (grind arith)
-    by (bad1 a mid c x j h m) q y i = absurd (grind arith)
+    by (bad0 h) q y i = cc
+    by (bad1 a mid c x j h m) q y i = cc
     by (over {t = a} {rest = more} mid c x u j o h m) q y i =
         let n : pre ≡ mid = one_way i j in
         let k : t ≡ a = cc in
         not_read (h v z all (subst (λ us. Front false (v ∷ z) us all) n f) (s ∙ ap (λ t. t.symbol) k) (subst (λ y. Twin y a v) (sym y) (d ∙ ap (λ t. t.deepest) k))) (r.is G (omega arith))
-    by gas q y i = absurd (grind arith)
+    by gas q y i = cc
 
 pub refused_bad : (g : ℕ) (ts pre : List Tok) (t : Tok) (rest : List Tok) → program g ts ≡ out_fail (t ∷ rest) why_bad → Eaten (t ∷ rest) pre ts → BeginsProgram (pre ++ (t ∷ [])) → ⊥
 refused_bad g ts pre t rest e i b = let d = double pre t b.rest b.same in dead_bad g ts pre (t ∷ rest) e i (d.v ∷ b.rest) (b.like ++ b.rest) b.program d.front (ap kind d.symbol) b.is
@@ -188,10 +185,6 @@ pub record Refused (ts rest : List Tok) (why : Why) : Type 0 where
 alive : (G : ℕ) (pre c all : List Tok) (p : Program) → all ≡ pre ++ c → program G all ≡ out_done p (fin ∷ []) → BeginsWithin pre
 alive G pre c all p q e = record { like = pre; same = depths_self pre; rest = c; program = p; is = subst (λ ts. Programs ts p) q (reads_to G all p e) }
 
--- the last token of pre and u, and a completion
-last_first : (pre : List Tok) (u : Tok) (c : List Tok) → pre ++ (u ∷ c) ≡ (pre ++ (u ∷ [])) ++ c
-last_first pre u c = sym (append_assoc pre (u ∷ []) c)
-
 refused_by : (G : ℕ) (ts rest : List Tok) (why : Why) → (why ≡ why_gas → ⊥) → Alive false no_kind not_end (program G) → Lo not_end (program G) ts false (out_fail rest why) → Refused ts rest why
 refused_by G ts rest why n a (bad0 h) = record { pre = []; eaten = nothing; live = alive G [] (a.c ++ (fin ∷ [])) (a.c ++ (fin ∷ [])) a.x refl (a.reads (fin ∷ []) refl); told = tt }
 refused_by G ts rest why n a (bad1 t pre c x e h g) =
@@ -210,7 +203,7 @@ refused_by G ts rest why n a (over {t = t} {rest = more} pre c x u e o h g) = by
     is = g (fin ∷ []) all (exact_front pre (u ∷ (c ++ (fin ∷ []))) true) refl
 
     whole : Programs ((pre ++ (u ∷ [])) ++ (c ++ (fin ∷ []))) x
-    whole = subst (λ ts. Programs ts x) (last_first pre u (c ++ (fin ∷ []))) (reads_to G all x is)
+    whole = subst (λ ts. Programs ts x) (sym (append_assoc pre (u ∷ []) (c ++ (fin ∷ [])))) (reads_to G all x is)
 
     by : {why : Why} → Over t u why → Refused ts (t ∷ more) why
     by (too_deep s i) =
@@ -225,7 +218,7 @@ refused_by G ts rest why n a (over {t = t} {rest = more} pre c x u e o h g) = by
 refused_by G ts rest why n a gas = absurd (n refl)
 
 pub refused : (g : ℕ) (ts rest : List Tok) (why : Why) → (why ≡ why_gas → ⊥) → program g ts ≡ out_fail rest why → Refused ts rest why
-refused g ts rest why n e = let h = program_good g (g + 2) (omega arith) in refused_by (g + 2) ts rest why n h.alive (subst (Lo not_end (program (g + 2)) ts false) e (h.lo ts))
+refused g ts rest why n e = refused_by (g + 2) ts rest why n (program_good g (g + 2) (omega arith)).alive (more_gas g (g + 2) (omega arith) e)
 
 -- with more gas the outcome is the same
 twin_self : {t u : Tok} {why : Why} → Over t u why → Twin why t t
@@ -233,7 +226,7 @@ twin_self (too_deep s i) = refl
 twin_self (too_many s i d k f) = refl
 
 pub fails_more : (g G : ℕ) → g + 1 < G → (ts rest : List Tok) (why : Why) → (why ≡ why_gas → ⊥) → program g ts ≡ out_fail rest why → Fails (program G ts)
-fails_more g G l ts rest why n e = by n (subst (Lo not_end (program G) ts false) e ((program_good g G l).lo ts))
+fails_more g G l ts rest why n e = by n (more_gas g G l e)
   where
     by : {rest : List Tok} {why : Why} → (why ≡ why_gas → ⊥) → Lo not_end (program G) ts false (out_fail rest why) → Fails (program G ts)
     by n (bad0 h) = h ts refl
@@ -242,7 +235,7 @@ fails_more g G l ts rest why n e = by n (subst (Lo not_end (program G) ts false)
     by n gas = absurd (n refl)
 
 pub done_more : (g G : ℕ) → g + 1 < G → (ts rest : List Tok) (p : Program) → program g ts ≡ out_done p rest → program G ts ≡ out_done p rest
-done_more g G l ts rest p e = by (subst (Lo not_end (program G) ts false) e ((program_good g G l).lo ts))
+done_more g G l ts rest p e = by (more_gas g G l e)
   where
     by : {rest : List Tok} {p : Program} → Lo not_end (program G) ts false (out_done p rest) → program G ts ≡ out_done p rest
     by (done0 h) = h ts (same refl)
@@ -254,7 +247,7 @@ pub record Eats (rest ts : List Tok) : Type 0 where
   pub eaten : Eaten rest pre ts
 
 pub done_eats : (g : ℕ) (ts rest : List Tok) (p : Program) → program g ts ≡ out_done p rest → Eats rest ts
-done_eats g ts rest p e = by (subst (Lo not_end (program (g + 2)) ts false) e ((program_good g (g + 2) (omega arith)).lo ts))
+done_eats g ts rest p e = by (more_gas g (g + 2) (omega arith) e)
   where
     by : {rest : List Tok} {p : Program} → Lo not_end (program (g + 2)) ts false (out_done p rest) → Eats rest ts
     by (done0 h) = record { pre = []; eaten = nothing }

@@ -1,5 +1,6 @@
 -- The reader of statements and programs looks no further, and can be completed. Assumes nothing.
-use Rattle.std.proofs.Common.{ℕ, zero, suc, ◌+◌, ◌<◌, Bool, true, false, cond, List, [], ◌∷◌, refl, arith}
+use Rattle.std.proofs.Common.{ℕ, zero, suc, ◌+◌, ◌<◌, Bool, true, false, ◌||◌, List, [], ◌∷◌, refl, arith}
+use Rattle.std.proofs.lemmas.Bool.{or_parts}
 use Rattle.script.specs.declared.types.Name.{Name}
 use Rattle.script.specs.declared.types.Declarator.{Declarator}
 use Rattle.script.specs.Tree as tree
@@ -10,18 +11,18 @@ use Rattle.tokens.specs.Spelling.{name, keyword, mark, Item}
 use Rattle.grammar.specs.Combine.{is, Parser, after, ret, bad, on, want}
 use Rattle.grammar.specs.Parse.{is_name, is_type, declares, begins, name_of, type_of, typed, declarator, actuals, expression, ended, declaration, assignment, otherwise, tests, statement_by, statements_by, statement, formals, body, function, program}
 use Rattle.grammar.proofs.Symbols.{never}
-use Rattle.grammar.proofs.Local.{Alive, Less, no_kind, ret_lo, bad_lo, ret_alive, on_lo, on_alive, after_alive, Good, less_is, less_refl, less_none, seq, seq_from, map, gas_good, weak, want_lo, want_alive, wants, then_mark, closing, opt_alive, many_good, not_end, less_end, ends_lo, ends_alive}
-use Rattle.grammar.proofs.Reader.{ends_expression, ends_test, or_left, listed_good, actuals_good, expression_alive, expression_good, condition_good}
+use Rattle.grammar.proofs.Local.{Alive, Less, no_kind, ret_lo, bad_lo, ret_alive, takes_lo, ret_good, on_alive, after_alive, Good, less_is, less_refl, less_none, seq, seq_from, map, gas_good, want_lo, want_alive, wants, then_mark, closing, opt_alive, many_good, not_end, less_end, ends_lo, ends_alive}
+use Rattle.grammar.proofs.Reader.{ends_expression, ends_test, listed_good, actuals_good, expression_alive, expression_good, condition_good}
 
 -- the kinds that go on with a statement and with statements
 abbrev pub ends_statement : ℕ → Bool
 ends_statement k = is (keyword word.Else) k
 
 abbrev pub ends_statements : ℕ → Bool
-ends_statements k = cond (begins k) true (is (keyword word.Else) k)
+ends_statements k = begins k || is (keyword word.Else) k
 
 sl : Less begins ends_statements
-sl = record { so = λ k e. or_left (begins k) _ e }
+sl = record { so = λ k e. (or_parts (begins k) _ e).0 }
 
 ql : Less ends_statement ends_statements
 ql = less_is ends_statements (keyword word.Else) refl
@@ -29,7 +30,7 @@ ql = less_is ends_statements (keyword word.Else) refl
 typed_good : {Q : ℕ → Bool} (d : ℕ) (m : Bool) → Good Q true (typed d m) (typed d m)
 typed_good {Q = Q} d m =
     record {
-      lo = on_lo d is_type _ _ (refl, refl) never (λ i. (inner i).alive) (λ i. (weak (inner i)).lo) bad_lo;
+      lo = takes_lo d is_type (refl, refl) never inner bad_lo;
       alive = on_alive d is_type _ _ (keyword word.Int) refl refl (λ i. (inner i).alive);
     }
   where
@@ -37,14 +38,14 @@ typed_good {Q = Q} d m =
         → Good {X = Declarator} Q true (on d is_name (λ j. ret (record { mutable = m; ty = type_of i.symbol; name = name_of j })) bad) (on d is_name (λ j. ret (record { mutable = m; ty = type_of i.symbol; name = name_of j })) bad)
     inner i =
         record {
-          lo = on_lo d is_name _ _ (refl, refl) never (λ j. ret_alive _ less_none) (λ j. ret_lo _) bad_lo;
+          lo = takes_lo d is_name (refl, refl) never (λ j. ret_good _) bad_lo;
           alive = on_alive d is_name _ _ (name []) refl refl (λ j. ret_alive _ less_none);
         }
 
 declarator_good : {Q : ℕ → Bool} (d : ℕ) → Good Q true (declarator d) (declarator d)
 declarator_good d =
     record {
-      lo = on_lo d (is (keyword word.Mutable)) _ _ (refl, refl) never (λ i. (typed_good d true).alive) (λ i. (weak (typed_good d true)).lo) (typed_good d false).lo;
+      lo = takes_lo d (is (keyword word.Mutable)) (refl, refl) never (λ i. typed_good d true) (typed_good d false).lo;
       alive = on_alive d (is (keyword word.Mutable)) _ _ (keyword word.Mutable) refl refl (λ i. (typed_good d true).alive);
     }
 
@@ -60,8 +61,8 @@ module _ (d : ℕ) where
   assignment_good {Q = Q} g G lt e E s S x h k =
       record {
         lo =
-            on_lo d (is (mark sign.Assign)) _ _ (refl, refl) never (λ i. (ended_good e E (tree.assign x) h).alive) (λ i. (weak (ended_good e E (tree.assign x) h)).lo)
-            (on_lo d (is (mark sign.LeftParen)) _ _ (refl, refl) never (λ i. call.alive) (λ i. (weak call).lo) bad_lo);
+            takes_lo d (is (mark sign.Assign)) (refl, refl) never (λ i. ended_good e E (tree.assign x) h)
+            (takes_lo d (is (mark sign.LeftParen)) (refl, refl) never (λ i. call) bad_lo);
         alive = on_alive d (is (mark sign.Assign)) _ _ (mark sign.Assign) refl refl (λ i. (ended_good e E (tree.assign x) h).alive);
       }
     where
@@ -71,7 +72,7 @@ module _ (d : ℕ) where
   otherwise_good : (b B : Parser Stmt) (at : ℕ) → Good ends_statement true b B → (x : Cond) → Good ends_statement true (after b (otherwise d at b x)) (after B (otherwise d at B x))
   otherwise_good b B at h x =
       seq (λ e. less_refl) h (λ y. opt_alive d (is (keyword word.Else)) _ _ (refl, refl) less_refl less_refl)
-      (λ y. on_lo d (is (keyword word.Else)) _ _ (refl, refl) (λ e. less_refl) (λ i. (map (tree.if_else at x y) h).alive) (λ i. (weak (map (tree.if_else at x y) h)).lo) (ret_lo (tree.if_then at x y)))
+      (λ y. takes_lo d (is (keyword word.Else)) (refl, refl) (λ e. less_refl) (λ i. map (tree.if_else at x y) h) (ret_lo (tree.if_then at x y)))
 
   tests_good : (c C : Parser Cond) (b B : Parser Stmt) (k K : Cond → Stmt → Parser Stmt) → Good ends_test true c C → ((x : Cond) → Good ends_statement true (after b (k x)) (after B (K x))) → Good ends_statement true (tests d c b k) (tests d C B K)
   tests_good c C b B k K h j = wants d sign.LeftParen (then_mark d sign.RightParen refl h j)
@@ -81,13 +82,13 @@ module _ (d : ℕ) where
   statement_by_good g G lt e E s S c C b B ss SS he hs hc hb hss =
       record {
         lo =
-            on_lo d is_name _ _ (refl, refl) never (λ i. (names i).alive) (λ i. (weak (names i)).lo)
-            (on_lo d (is (keyword word.If)) _ _ (refl, refl) never (λ i. (ifs i).alive) (λ i. (weak (ifs i)).lo)
-            (on_lo d (is (keyword word.While)) _ _ (refl, refl) never (λ i. (whiles i).alive) (λ i. (weak (whiles i)).lo)
-            (on_lo d (is (keyword word.Free)) _ _ (refl, refl) never (λ i. (ends_with (tree.free i.at)).alive) (λ i. (weak (ends_with (tree.free i.at))).lo)
-            (on_lo d (is (keyword word.Print)) _ _ (refl, refl) never (λ i. (ends_with (tree.print i.at)).alive) (λ i. (weak (ends_with (tree.print i.at))).lo)
-            (on_lo d (is (keyword word.Return)) _ _ (refl, refl) never (λ i. (ends_with (tree.return i.at)).alive) (λ i. (weak (ends_with (tree.return i.at))).lo)
-            (on_lo d (is (mark sign.LeftBrace)) _ _ (refl, refl) never (λ i. (blocks i).alive) (λ i. (blocks i).lo)
+            takes_lo d is_name (refl, refl) never names
+            (takes_lo d (is (keyword word.If)) (refl, refl) never ifs
+            (takes_lo d (is (keyword word.While)) (refl, refl) never whiles
+            (takes_lo d (is (keyword word.Free)) (refl, refl) never (λ i. ends_with (tree.free i.at))
+            (takes_lo d (is (keyword word.Print)) (refl, refl) never (λ i. ends_with (tree.print i.at))
+            (takes_lo d (is (keyword word.Return)) (refl, refl) never (λ i. ends_with (tree.return i.at))
+            (takes_lo d (is (mark sign.LeftBrace)) (refl, refl) never blocks
             (declaration_good e E he).lo))))));
         alive = on_alive d is_name _ _ (name []) refl refl (λ i. (names i).alive);
       }
@@ -129,7 +130,7 @@ module _ (g G : ℕ) (h : g + 1 < G) where
   body_good x xs =
       seq never (statements_by_good g G (omega arith) _ _ (statement_good g G 1 h))
       (λ b. on_alive 0 (is (mark sign.RightBrace)) _ _ {w = true} (mark sign.RightBrace) refl refl (λ i. ret_alive _ less_none))
-      (λ b. on_lo 0 (is (mark sign.RightBrace)) _ _ (refl, refl) never (λ i. ret_alive _ less_none) (λ i. ret_lo _) bad_lo)
+      (λ b. takes_lo 0 (is (mark sign.RightBrace)) (refl, refl) never (λ i. ret_good _) bad_lo)
 
   formals_good : Good no_kind true (formals g) (formals G)
   formals_good = listed_good (is (mark sign.Comma)) 0 g G (omega arith) (declarator 1) (declarator 1) [] (λ x xs. x ∷ xs) refl refl less_none (declarator_good {Q = no_kind} 1)

@@ -44,54 +44,51 @@ after_ok {X = X} {K = K} {L = L} p f ts h k = by (p ts) h
 
 from_ok : {X Y : Type 0} {K : X → List Tok → Type 0} {L : Y → List Tok → Type 0} (p : Parser X) (f : ℕ → X → Parser Y) (ts : List Tok) → Ok K (p ts)
     → ((x : X) (rest : List Tok) → K x rest → Ok L (f (offset ts) x rest)) → Ok L (from p f ts)
-unfolding from
-from_ok {X = X} {K = K} {L = L} p f ts h k = by (p ts) h
+unfolding after from
+from_ok p f ts h k = after_ok p (f (offset ts)) ts h k
+
+-- a token is taken where it fits, and left where it does not pass
+token_ok : {X : Type 0} {K : X → List Tok → Type 0} (d : ℕ) (test : ℕ → Bool) (p : Item → Parser X) (q : Parser X) (t : Tok) (us : List Tok) → (Fits d test t → Ok K (p (bare t) us))
+    → (test (kind t.symbol) ≡ false → Ok K (q (t ∷ us))) → Ok K (on d test p q (t ∷ us))
+unfolding on
+token_ok {K = K} d test p q t us h k = by (test (kind t.symbol)) refl (ltb t.deepest d) refl t.counted refl
   where
-    by : (o : Out X) → Ok K o → Ok L (next o (f (offset ts)))
-    by (out_done x rest) (ok j) = k x rest j
-    by (out_fail rest n) no = no
+    by : (b : Bool) → test (kind t.symbol) ≡ b → (c : Bool) → ltb t.deepest d ≡ c → (e : Bool) → t.counted ≡ e
+        → Ok K (cond b (cond c (out_fail (t ∷ us) why_deep) (cond e (p (bare t) us) (out_fail (t ∷ us) why_many))) (q (t ∷ us)))
+    by true e true i c j = no
+    by true e false i true j = h (record { passes = e; depth = ltb-false _ _ i; counted = j })
+    by true e false i false j = no
+    by false e true i c j = k e
+    by false e false i c j = k e
 
 -- a first token: the derivation begins here
 first_ok : {X : Type 0} {R : Rel X} (d : ℕ) (test : ℕ → Bool) (p : Item → Parser X) (q : Parser X) → ((t : Tok) (us : List Tok) → Fits d test t → Ok (R (t ∷ us)) (p (bare t) us)) → Reads R q → Reads R (on d test p q)
 unfolding on
 first_ok d test p q h k [] = k []
-first_ok {R = R} d test p q h k (t ∷ us) = by (test (kind t.symbol)) refl (ltb t.deepest d) refl t.counted refl
-  where
-    by : (b : Bool) → test (kind t.symbol) ≡ b → (c : Bool) → ltb t.deepest d ≡ c → (e : Bool) → t.counted ≡ e
-        → Ok (R (t ∷ us)) (cond b (cond c (out_fail (t ∷ us) why_deep) (cond e (p (bare t) us) (out_fail (t ∷ us) why_many))) (q (t ∷ us)))
-    by true e true i c j = no
-    by true e false i true j = h t us (record { passes = e; depth = ltb-false _ _ i; counted = j })
-    by true e false i false j = no
-    by false e true i c j = k (t ∷ us)
-    by false e false i c j = k (t ∷ us)
+first_ok d test p q h k (t ∷ us) = token_ok d test p q t us (h t us) (λ e. k (t ∷ us))
 
 -- a later token: M is what has been derived so far
 on_ok : {X : Type 0} {K : X → List Tok → Type 0} (M : List Tok → Type 0) (d : ℕ) (test : ℕ → Bool) (p : Item → Parser X) (q : Parser X) (ts : List Tok) → Sharp test → M ts
     → ((t : Tok) (us : List Tok) → M (t ∷ us) → Fits d test t → Ok K (p (bare t) us)) → (test (kind_at ts) ≡ false → Ok K (q ts)) → Ok K (on d test p q ts)
 unfolding on
 on_ok M d test p q [] z m h k = k z.0
-on_ok {K = K} M d test p q (t ∷ us) z m h k = by (test (kind t.symbol)) refl (ltb t.deepest d) refl t.counted refl
-  where
-    by : (b : Bool) → test (kind t.symbol) ≡ b → (c : Bool) → ltb t.deepest d ≡ c → (e : Bool) → t.counted ≡ e
-        → Ok K (cond b (cond c (out_fail (t ∷ us) why_deep) (cond e (p (bare t) us) (out_fail (t ∷ us) why_many))) (q (t ∷ us)))
-    by true e true i c j = no
-    by true e false i true j = h t us m (record { passes = e; depth = ltb-false _ _ i; counted = j })
-    by true e false i false j = no
-    by false e true i c j = k e
-    by false e false i c j = k e
+on_ok M d test p q (t ∷ us) z m h k = token_ok d test p q t us (h t us m) k
 
 -- what a token is that passes
+fits_as : {d : ℕ} {test : ℕ → Bool} {t : Tok} {s : Symbol} → Fits d test t → t.symbol ≡ s → Is d s t
+fits_as f e = record { symbol = e; depth = f.depth; counted = f.counted }
+
 as_is : {d : ℕ} {t : Tok} (s : Symbol) → definite s ≡ true → Fits d (is s) t → Is d s t
-as_is {t = t} s e f = record { symbol = only s t.symbol e f.passes; depth = f.depth; counted = f.counted }
+as_is s e f = fits_as f (only s _ e f.passes)
 
 as_name : {d : ℕ} {t : Tok} → Fits d is_name t → IsName d (name_of (bare t)) t
-as_name {t = t} f = record { spelling = _; is = record { symbol = a_name t.symbol f.passes; depth = f.depth; counted = f.counted }; range = refl }
+as_name f = record { spelling = _; is = fits_as f (a_name _ f.passes); range = refl }
 
 as_constant : {d : ℕ} {t : Tok} → Fits d is_constant t → Is d (constant (value_of t.symbol)) t
-as_constant {t = t} f = record { symbol = a_constant t.symbol f.passes; depth = f.depth; counted = f.counted }
+as_constant f = fits_as f (a_constant _ f.passes)
 
 as_type : {d : ℕ} {t : Tok} → Fits d is_type t → Is d (keyword (type_word (type_of t.symbol))) t
-as_type {t = t} f = record { symbol = a_type t.symbol f.passes; depth = f.depth; counted = f.counted }
+as_type f = fits_as f (a_type _ f.passes)
 
 want_ok : {X : Type 0} {K : X → List Tok → Type 0} (M : List Tok → Type 0) (d : ℕ) (m : Mark) (q : Parser X) (ts : List Tok) → M ts
     → ((t : Tok) (us : List Tok) → M (t ∷ us) → Is d (mark m) t → Ok K (q us)) → Ok K (want d m q ts)
@@ -181,7 +178,7 @@ grows : {n d : ℕ} {ts mid rest : List Tok} {e f : Expr} (t : Tok) → Fits d (
 grows {n = n} {d = d} {ts = ts} {mid = mid} {rest = rest} {e = e} {f = f} t h i j = by (an_operator n t.symbol h.passes)
   where
     by : Operates (suc n) t.symbol → Expression (suc n) d ts (tree.binary t.at (offset ts) (operator_of t.symbol) e f) rest
-    by (operates_by o q b) = rw (ap operator_of q ∙ operator_is o) (rule.binary o b i (record { symbol = q; depth = h.depth; counted = h.counted }) j)
+    by (operates_by o q b) = rw (ap operator_of q ∙ operator_is o) (rule.binary o b i (fits_as h q) j)
 
 level_ok : (m : Bool) (d g : ℕ) (a : Parser (Got m)) (p : Parser Expr) (n : ℕ) → n ≤ 3 → Reads (Was m 0 d) a → Reads (Expression 0 d) p → Reads (Was m n d) (level m d g a p n)
 level_ok m d g a p zero l h k ts = h ts
@@ -241,7 +238,7 @@ compares_as : {d : ℕ} {ts mid rest : List Tok} {e f : Expr} (t : Tok) → Fits
 compares_as {d = d} {ts = ts} {rest = rest} {e = e} {f = f} t h i j = by (a_comparison t.symbol h.passes)
   where
     by : Compares t.symbol → Condition 0 d ts (tree.compare t.at (comparison_of t.symbol) e f) rest
-    by (compares_by o q) = rw (ap comparison_of q ∙ comparison_is o) (rule.compared o i (record { symbol = q; depth = h.depth; counted = h.counted }) j)
+    by (compares_by o q) = rw (ap comparison_of q ∙ comparison_is o) (rule.compared o i (fits_as h q) j)
 
 tested_ok : (m : Bool) (d : ℕ) (s : Parser Expr) → Reads (Expression 3 d) s → (ts : List Tok) (x : Thing) (rest : List Tok) → Was true 3 d ts x rest → Ok (Held m 0 d ts) (tested m d s x rest)
 tested_ok m d s h ts (thing_cond c) rest i = ok (held m i)
@@ -264,8 +261,8 @@ joins_as : {n d : ℕ} {ts mid rest : List Tok} {c e : Cond} (t : Tok) → Fits 
 joins_as {n = n} {d = d} {ts = ts} {mid = mid} {rest = rest} {c = c} {e = e} t h i j = by (a_join n t.symbol h.passes) i j
   where
     by : Joins (suc n) t.symbol → Condition (suc n) d ts c (t ∷ mid) → Condition n d mid e rest → Condition (suc n) d ts (join_of t.symbol t.at c e) rest
-    by (by_and q b) i j = let z : n ≡ 0 = omega arith in rw (q, z) (rule.both (rw z at i) (record { symbol = q; depth = h.depth; counted = h.counted }) (rw z at j))
-    by (by_or q b) i j = let z : n ≡ 1 = omega arith in rw (q, z) (rule.either (rw z at i) (record { symbol = q; depth = h.depth; counted = h.counted }) (rw z at j))
+    by (by_and q b) i j = let z : n ≡ 0 = omega arith in rw (q, z) (rule.both (rw z at i) (fits_as h q) (rw z at j))
+    by (by_or q b) i j = let z : n ≡ 1 = omega arith in rw (q, z) (rule.either (rw z at i) (fits_as h q) (rw z at j))
 
 condition_by_ok : (m : Bool) (d g : ℕ) (a : Parser (Found m)) (p : Parser Cond) (n : ℕ) → n ≤ 2 → Reads (Held m 0 d) a → Reads (Condition 0 d) p → Reads (Held m n d) (condition_by m d g a p n)
 condition_by_ok m d g a p zero l h k ts = h ts
@@ -402,4 +399,4 @@ derived ts p rest g e = by (program g ts) (program_ok g ts) e
   where
     by : (o : Out Program) → Ok (Whole ts) o → o ≡ out_done p rest → Whole ts p rest
     by (out_done x r) (ok k) e = let a : x ≡ p = cc in let b : r ≡ rest = cc in rw (← a, ← b) k
-    by (out_fail r n) no e = absurd (grind arith)
+    by (out_fail r n) no e = absurd cc

@@ -1,5 +1,5 @@
 -- What the kind of a symbol tells about it. Assumes nothing.
-use Rattle.std.proofs.Common.{◌≡◌, ℕ, suc, Bool, true, false, cond, eqb, ◌⊎◌, [], sym, refl, ap, ◌∙◌, inl, inr, arith, eq-eqb, ne_eqb, eqb-true}
+use Rattle.std.proofs.Common.{◌≡◌, ℕ, suc, Bool, true, false, cond, eqb, [], sym, refl, ap, ◌∙◌, true≢false, arith, eq-eqb, ne_eqb, eqb-true}
 use Rattle.script.specs.declared.types.Operator.{Operator}
 use Rattle.script.specs.declared.types.Operator.TheVariants as operator
 use Rattle.script.specs.declared.types.Comparison.{Comparison}
@@ -16,7 +16,7 @@ use Rattle.grammar.specs.Combine.{kind, keyword_kind, mark_kind, is}
 use Rattle.grammar.specs.Parse.{is_name, is_constant, is_type, binding, operates, compares, joins, value_of, spelling, type_of, operator_of, comparison_of}
 
 pub never : {A : Type 0} → true ≡ false → A
-never e = absurd (grind arith)
+never e = absurd (true≢false e)
 
 -- a symbol of a kind
 abbrev decode : ℕ → Symbol
@@ -46,7 +46,7 @@ definite (name w) = false
 definite (constant n) = false
 definite (keyword k) = true
 definite (mark m) = true
-definite end = false
+definite end = true
 definite (trouble t) = false
 
 keyword_kind_lem : (k : Keyword) → decode (keyword_kind k) ≡ keyword k
@@ -96,72 +96,59 @@ decodes (trouble t) = refl
 same_code : (s u : Symbol) → is s (kind u) ≡ true → code u ≡ code s
 same_code s u e = sym (decodes u) ∙ ap decode (eqb-true _ _ e) ∙ decodes s
 
+definite_code : (u : Symbol) → definite (code u) ≡ definite u
+definite_code (name w) = refl
+definite_code (constant n) = refl
+definite_code (keyword k) = refl
+definite_code (mark m) = refl
+definite_code end = refl
+definite_code (trouble t) = refl
+
+code_itself : (u : Symbol) → definite u ≡ true → code u ≡ u
+code_itself (name w) d = never (sym d)
+code_itself (constant n) d = never (sym d)
+code_itself (keyword k) d = refl
+code_itself (mark m) d = refl
+code_itself end d = refl
+code_itself (trouble t) d = never (sym d)
+
 pub only : (s u : Symbol) → definite s ≡ true → is s (kind u) ≡ true → u ≡ s
-only s u d e = by s u d (same_code s u e)
-  where
-    by : (s u : Symbol) → definite s ≡ true → code u ≡ code s → u ≡ s
-    by (name w) u d e = never (sym d)
-    by (constant n) u d e = never (sym d)
-    by end u d e = never (sym d)
-    by (trouble t) u d e = never (sym d)
-    by (keyword k) (keyword j) d e = e
-    by (keyword k) (mark m) d e = e
-    by (keyword k) (name w) d e = never (sym (ap definite e))
-    by (keyword k) (constant n) d e = never (sym (ap definite e))
-    by (keyword k) end d e = never (sym (ap definite e))
-    by (keyword k) (trouble t) d e = never (sym (ap definite e))
-    by (mark k) (keyword j) d e = e
-    by (mark k) (mark m) d e = e
-    by (mark k) (name w) d e = never (sym (ap definite e))
-    by (mark k) (constant n) d e = never (sym (ap definite e))
-    by (mark k) end d e = never (sym (ap definite e))
-    by (mark k) (trouble t) d e = never (sym (ap definite e))
+only s u d e =
+    let q = same_code s u e in
+    sym (code_itself u (sym (definite_code u) ∙ ap definite q ∙ definite_code s ∙ d)) ∙ q ∙ code_itself s d
 
 pub a_name : (u : Symbol) → is_name (kind u) ≡ true → u ≡ name (spelling u)
-a_name u e = by u (eqb-true _ _ e)
+a_name u e = by u (same_code (name []) u e)
   where
-    by : (u : Symbol) → kind u ≡ 2 → u ≡ name (spelling u)
+    by : (u : Symbol) → code u ≡ name [] → u ≡ name (spelling u)
     by (name w) e = refl
-    by (constant n) e = absurd (omega arith)
-    by (keyword k) e = let z : keyword k ≡ name [] = sym (keyword_kind_lem k) ∙ ap decode e in absurd (grind arith)
-    by (mark m) e = let z : mark m ≡ name [] = sym (mark_kind_lem m) ∙ ap decode e in absurd (grind arith)
-    by end e = absurd (omega arith)
-    by (trouble t) e = absurd (omega arith)
+    by (constant n) e = absurd cc
+    by (keyword k) e = absurd cc
+    by (mark m) e = absurd cc
+    by end e = absurd cc
+    by (trouble t) e = absurd cc
 
 pub a_constant : (u : Symbol) → is_constant (kind u) ≡ true → u ≡ constant (value_of u)
-a_constant u e = by u (eqb-true _ _ e)
+a_constant u e = by u (same_code (constant 0) u e)
   where
-    by : (u : Symbol) → kind u ≡ 3 → u ≡ constant (value_of u)
-    by (name w) e = absurd (omega arith)
+    by : (u : Symbol) → code u ≡ constant 0 → u ≡ constant (value_of u)
+    by (name w) e = absurd cc
     by (constant n) e = refl
-    by (keyword k) e = let z : keyword k ≡ constant 0 = sym (keyword_kind_lem k) ∙ ap decode e in absurd (grind arith)
-    by (mark m) e = let z : mark m ≡ constant 0 = sym (mark_kind_lem m) ∙ ap decode e in absurd (grind arith)
-    by end e = absurd (omega arith)
-    by (trouble t) e = absurd (omega arith)
+    by (keyword k) e = absurd cc
+    by (mark m) e = absurd cc
+    by end e = absurd cc
+    by (trouble t) e = absurd cc
 
 pub an_end : (u : Symbol) → kind u ≡ 0 → u ≡ end
-an_end (name w) e = absurd (omega arith)
-an_end (constant n) e = absurd (omega arith)
-an_end (keyword k) e = let z : keyword k ≡ end = sym (keyword_kind_lem k) ∙ ap decode e in absurd (grind arith)
-an_end (mark m) e = let z : mark m ≡ end = sym (mark_kind_lem m) ∙ ap decode e in absurd (grind arith)
-an_end end e = refl
-an_end (trouble t) e = absurd (omega arith)
-
--- a test that is either of two
-either : (b : Bool) (c : Bool) → cond b true c ≡ true → (b ≡ true) ⊎ (c ≡ true)
-either true c e = inl refl
-either false c e = inr e
+an_end u e = only end u refl (eq-eqb (kind u) 0 e)
 
 pub a_type : (u : Symbol) → is_type (kind u) ≡ true → u ≡ keyword (type_word (type_of u))
-a_type u e = by (either (is (keyword word.Int) (kind u)) _ e)
+a_type u e = by (is (keyword word.Int) (kind u)) refl (is (keyword word.Ref) (kind u)) refl e
   where
-    far : (is (keyword word.Ref) (kind u) ≡ true) ⊎ (is (keyword word.Q) (kind u) ≡ true) → u ≡ keyword (type_word (type_of u))
-    far (inl i) = rw (only (keyword word.Ref) u refl i) refl
-    far (inr i) = rw (only (keyword word.Q) u refl i) refl
-
-    by : (is (keyword word.Int) (kind u) ≡ true) ⊎ (cond (is (keyword word.Ref) (kind u)) true (is (keyword word.Q) (kind u)) ≡ true) → u ≡ keyword (type_word (type_of u))
-    by (inl i) = rw (only (keyword word.Int) u refl i) refl
-    by (inr i) = far (either (is (keyword word.Ref) (kind u)) _ i)
+    by : (a : Bool) → is (keyword word.Int) (kind u) ≡ a → (b : Bool) → is (keyword word.Ref) (kind u) ≡ b → cond a true (cond b true (is (keyword word.Q) (kind u))) ≡ true → u ≡ keyword (type_word (type_of u))
+    by true i b j e = rw (only (keyword word.Int) u refl i) refl
+    by false i true j e = rw (only (keyword word.Ref) u refl j) refl
+    by false i false j e = rw (only (keyword word.Q) u refl e) refl
 
 -- the kind of an operator
 pub data Operates (n : ℕ) (u : Symbol) : Type 0 where
@@ -194,29 +181,17 @@ pub data Compares (u : Symbol) : Type 0 where
   compares_by : (o : Comparison) → u ≡ mark (comparison_mark o) → Compares u
 
 pub a_comparison : (u : Symbol) → compares (kind u) ≡ true → Compares u
-a_comparison u e = one (either (is (mark sign.LessEqual) (kind u)) _ e)
+a_comparison u e =
+    by (is (mark sign.LessEqual) (kind u)) refl (is (mark sign.GreaterEqual) (kind u)) refl (is (mark sign.EqualEqual) (kind u)) refl (is (mark sign.NotEqual) (kind u)) refl (is (mark sign.Less) (kind u)) refl e
   where
-    five : (is (mark sign.Less) (kind u) ≡ true) ⊎ (is (mark sign.Greater) (kind u) ≡ true) → Compares u
-    five (inl i) = compares_by comparison.Less (only (mark sign.Less) u refl i)
-    five (inr i) = compares_by comparison.Greater (only (mark sign.Greater) u refl i)
-
-    four : (is (mark sign.NotEqual) (kind u) ≡ true) ⊎ (cond (is (mark sign.Less) (kind u)) true (is (mark sign.Greater) (kind u)) ≡ true) → Compares u
-    four (inl i) = compares_by comparison.NotEqual (only (mark sign.NotEqual) u refl i)
-    four (inr i) = five (either (is (mark sign.Less) (kind u)) _ i)
-
-    three : (is (mark sign.EqualEqual) (kind u) ≡ true) ⊎ (cond (is (mark sign.NotEqual) (kind u)) true (cond (is (mark sign.Less) (kind u)) true (is (mark sign.Greater) (kind u))) ≡ true) → Compares u
-    three (inl i) = compares_by comparison.Equal (only (mark sign.EqualEqual) u refl i)
-    three (inr i) = four (either (is (mark sign.NotEqual) (kind u)) _ i)
-
-    two : (is (mark sign.GreaterEqual) (kind u) ≡ true) ⊎ (cond (is (mark sign.EqualEqual) (kind u)) true (cond (is (mark sign.NotEqual) (kind u)) true (cond (is (mark sign.Less) (kind u)) true (is (mark sign.Greater) (kind u)))) ≡ true)
-        → Compares u
-    two (inl i) = compares_by comparison.GreaterEqual (only (mark sign.GreaterEqual) u refl i)
-    two (inr i) = three (either (is (mark sign.EqualEqual) (kind u)) _ i)
-
-    one : (is (mark sign.LessEqual) (kind u) ≡ true) ⊎ (cond (is (mark sign.GreaterEqual) (kind u)) true (cond (is (mark sign.EqualEqual) (kind u)) true (cond (is (mark sign.NotEqual) (kind u)) true (cond (is (mark sign.Less) (kind u)) true (is (mark sign.Greater) (kind u))))) ≡ true)
-        → Compares u
-    one (inl i) = compares_by comparison.LessEqual (only (mark sign.LessEqual) u refl i)
-    one (inr i) = two (either (is (mark sign.GreaterEqual) (kind u)) _ i)
+    by : (a : Bool) → is (mark sign.LessEqual) (kind u) ≡ a → (b : Bool) → is (mark sign.GreaterEqual) (kind u) ≡ b → (c : Bool) → is (mark sign.EqualEqual) (kind u) ≡ c → (d : Bool) → is (mark sign.NotEqual) (kind u) ≡ d
+        → (f : Bool) → is (mark sign.Less) (kind u) ≡ f → cond a true (cond b true (cond c true (cond d true (cond f true (is (mark sign.Greater) (kind u)))))) ≡ true → Compares u
+    by true i b j c k d l f m e = compares_by comparison.LessEqual (only (mark sign.LessEqual) u refl i)
+    by false i true j c k d l f m e = compares_by comparison.GreaterEqual (only (mark sign.GreaterEqual) u refl j)
+    by false i false j true k d l f m e = compares_by comparison.Equal (only (mark sign.EqualEqual) u refl k)
+    by false i false j false k true l f m e = compares_by comparison.NotEqual (only (mark sign.NotEqual) u refl l)
+    by false i false j false k false l true m e = compares_by comparison.Less (only (mark sign.Less) u refl m)
+    by false i false j false k false l false m e = compares_by comparison.Greater (only (mark sign.Greater) u refl e)
 
 pub comparison_is : (o : Comparison) → comparison_of (mark (comparison_mark o)) ≡ o
 comparison_is comparison.LessEqual = refl
@@ -260,35 +235,17 @@ goes_on test h end e = sym e ∙ h.0
 goes_on test h (trouble t) e = sym e ∙ h.1
 
 pub mark_sharp : (m : Mark) → Sharp (is (mark m))
-mark_sharp sign.LeftParen = (refl, refl)
-mark_sharp sign.RightParen = (refl, refl)
-mark_sharp sign.LeftBrace = (refl, refl)
-mark_sharp sign.RightBrace = (refl, refl)
-mark_sharp sign.Comma = (refl, refl)
-mark_sharp sign.Semicolon = (refl, refl)
-mark_sharp sign.Assign = (refl, refl)
-mark_sharp sign.Plus = (refl, refl)
-mark_sharp sign.Minus = (refl, refl)
-mark_sharp sign.Star = (refl, refl)
-mark_sharp sign.Dot = (refl, refl)
-mark_sharp sign.Less = (refl, refl)
-mark_sharp sign.Greater = (refl, refl)
-mark_sharp sign.LessEqual = (refl, refl)
-mark_sharp sign.GreaterEqual = (refl, refl)
-mark_sharp sign.EqualEqual = (refl, refl)
-mark_sharp sign.NotEqual = (refl, refl)
-mark_sharp sign.Not = (refl, refl)
-mark_sharp sign.AndAnd = (refl, refl)
-mark_sharp sign.OrOr = (refl, refl)
+mark_sharp m = (ne_eqb _ _ (λ e. other end (ap decode e) refl), ne_eqb _ _ (λ e. other (trouble NoToken) (ap decode e) refl))
+  where
+    other : (s : Symbol) → s ≡ decode (mark_kind m) → final s ≡ true → ⊥
+    other s e f = never (sym f ∙ ap final (e ∙ mark_kind_lem m))
 
-none_binds : (n : ℕ) → eqb 0 (suc n) ≡ false
-none_binds n = ne_eqb 0 (suc n) (λ e. omega arith)
+-- what does not bind is of no level
+pub no_level : (n k : ℕ) → k ≡ 0 → eqb k (suc n) ≡ false
+no_level n k e = ne_eqb k (suc n) (λ i. omega arith)
 
 pub operates_sharp : (n : ℕ) → Sharp (operates (suc n))
-operates_sharp n = (none_binds n, none_binds n)
+operates_sharp n = (no_level n 0 refl, no_level n 0 refl)
 
 pub joins_sharp : (n : ℕ) → Sharp (joins (suc n))
-joins_sharp n = (none_binds n, none_binds n)
-
-pub own : (s : Symbol) → is s (kind s) ≡ true
-own s = eq-eqb (kind s) (kind s) refl
+joins_sharp n = (no_level n 0 refl, no_level n 0 refl)
