@@ -53,6 +53,7 @@ fn spelling_of<'a>(source: &'a [u8], placed: Placed<'a>) -> &'a [u8]
     }
 }
 
+// A `format!`, in a function of its own for its clause.
 fn front_of(heap: Global, at: usize, kind: &str) -> Result<String, AllocError>
     ensures { IfOk result (λ s. string_bytes s ≡ decimal at ++ (codes " " ++ kind.now)) }
 {
