@@ -8,7 +8,7 @@ use Rattle.typing.specs.declared.types.CheckRefusal.{CheckRefusal}
 use Rattle.typing.specs.Types.{types_of}
 use Rattle.script.specs.declared.types.Declarator.{Declarator}
 use Rattle.typing.specs.declared.types.Want.TheVariants.{Fit}
-use Rattle.typing.specs.Faults.{fitted, unfit, noted, misfits, all_fit}
+use Rattle.typing.specs.Faults.{fitted, noted, misfits, all_fit}
 
 module _ {X : Type 0} (type_of : X → Ty) where
   pub all_fit_zip : (vs : List Operand) (xs : List X) → length vs ≡ length xs → list_all (λ p. fitted p.0.ty (Fit (type_of p.1))) (zip vs xs) ≡ all_fit vs (map type_of xs)
@@ -33,11 +33,6 @@ module _ {X : Type 0} (type_of : X → Ty) where
 
   pub all_fit_apart : (vs : List Operand) (xs : List X) → (length vs ≡ length xs → ⊥) → nat_eq (length vs) (length xs) ≡ all_fit vs (map type_of xs)
   all_fit_apart vs xs h = ne_eqb (length vs) (length xs) h ∙ not_fit vs xs h
-
-  -- one actual and its formal are done
-  pub misfits_more : (l k : Option CheckRefusal) (vs ws : List Operand) (xs ys : List X) (v : Operand) (x : X) (t : Ty) → vs ≡ v ∷ ws → xs ≡ x ∷ ys → t ≡ type_of x → k ≡ noted l (unfit v.ty (Fit t) v.start)
-      → noted l (misfits vs (map type_of xs)) ≡ noted k (misfits ws (map type_of ys))
-  misfits_more l k vs ws xs ys v x t p q r e = rw (p, q, e, r) refl
 
   -- no actual or no formal is left
   pub misfits_over : (l : Option CheckRefusal) (vs : List Operand) (xs : List X) → (vs ≡ []) ⊎ (xs ≡ []) → noted l (misfits vs (map type_of xs)) ≡ l
