@@ -3,7 +3,7 @@
 rt_lines() { grep -rnE --include='*.rt' "$1" crates/*/src; }
 
 point_1() { rt_lines '(: |-> )(u8|bool)\b|\[u8; [0-9]'; rt_lines '\benum [A-Z]'; }
-# Names of functions that stand twice, and runs of lines that do.
+# Names of functions that stand twice, and runs of lines that do; these by `duplicates`, a command that not every machine has: without it only the names are listed.
 point_2() {
     grep -rhoE --include='*.rt' '\bfn [a-z_]+' crates/*/src | sort | uniq -d
     copy=$(mktemp -d)

@@ -5,7 +5,7 @@ use std::alloc::{AllocError, Global};
 use std::test::Fail;
 use text_check::check_text;
 
-// The words of operators and comparisons here are the tests' own, beside what they expect.
+// The words of operators, comparisons and nodes here are the tests' own, beside what they expect.
 fn operator_text(operator: Operator) -> &'static str {
     match operator {
         Operator::Multiply => "*",
