@@ -13,7 +13,7 @@ pub struct Pair {
 }
 
 // The free list and the worklist are threaded through the cells by places' numbers, since nothing allocates after `new`.
-// A link is a number and no `Option` of an address: a list ends at a place whose cell is not in it.
+// A link is a number and no `Option` of an address: a list ends at a place whose cell is not in it, and the first links would be `Address { at: 0 }`.
 #[derive(Clone, Copy)]
 pub enum Cell {
     // The next place of the free list, which ends where that is not free.
@@ -31,7 +31,7 @@ pub enum Cell {
 }
 
 impl Cell {
-    // Each heap has a `new` of its own cell: a trait for both would add a name and share no code.
+    // `new` in each heap, and no `Default` beside it: hosts call `new`, and no derive gives a variant with a field.
     pub fn new() -> Cell
         ensures { result ≡ Cell.Free 0 }
     {

@@ -1,4 +1,5 @@
 // Steps on the cells of the places: how many slots name each place, and what the slots hold.
+// Functions and no methods: `Places` is another crate's type, and no step here touches the free list.
 ghost use Rattle.std.specs.Prelude.{◌≡◌, ◌<◌, true, slice_set};
 ghost use Rattle.heap.specs.Model.{room_at};
 ghost use Rattle.heap.specs.Places.{places_of, SameSpare};

@@ -10,6 +10,7 @@ use crate::cell::{Cell, Pair};
 use crate::names::{at, lower, raise, set_slot};
 use heap::{Address, Places, Side, Value};
 
+// No invariant of its own: the steps of a call go through cells that are not sound, and `CountingHeap` has it between calls.
 #[derive(Drop)]
 pub(crate) struct Store {
     pub(crate) places: Places<Cell>,

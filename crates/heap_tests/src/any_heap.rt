@@ -5,6 +5,7 @@ use std::test::Fail;
 
 const NOWHERE: Address = Address { at: 65_535 };
 
+// By number and not by refusal: the numbers are tested too.
 fn refused<T: Drop>(answer: Result<T, HeapRefusal>, number: u8) -> Result<(), Fail> {
     match answer {
         Ok(_) => Err(Fail::new("not refused")),

@@ -5,7 +5,7 @@ ghost use Rattle.keep_all.specs.Cells.{room_of};
 
 use heap::{Side, Value};
 
-// No `Option`: its `Some` and `None` would say less than the two words, and hosts name the type.
+// No `Option`: hosts call `Cell::new`, and an `Option` could have no function of ours.
 #[derive(Clone, Copy)]
 pub enum Cell {
     Free,
@@ -24,6 +24,7 @@ impl Cell {
         Self::Free
     }
 
+    // A test, and no `Option` of what a taken cell has: each call wants one of its three parts.
     pub(crate) fn is_taken(self) -> bool
         ensures { result ≡ is_taken (room_of self) }
     {
@@ -57,7 +58,7 @@ impl Cell {
         }
     }
 
-    // The match is that of counting's `set_slot` over another cell: they share its two words and no more.
+    // The match is that of counting's `set_slot`, which writes a field in place: what a function of both would answer each would have to take apart.
     pub(crate) fn with_slot(self, side: Side, value: Value) -> Cell
         ensures { room_of result ≡ with_slot (room_of self) side value }
     {

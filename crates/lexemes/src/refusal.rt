@@ -6,6 +6,7 @@ use refusal_line::refusal_line;
 use std::alloc::{AllocError, Global};
 use tokens::Trouble;
 
+// Three of the reader's reasons: a program that lists tokens does not stand on the reader, so two numbers and two sentences stand in both.
 #[derive(Clone, Copy)]
 pub enum Reason {
     LongSource,

@@ -8,7 +8,7 @@ use outline::outline_of;
 use std::io;
 use std::io::Read;
 
-// Programs that turn their input into a text have this `main` each: one function for all would take the runtime and a closure, and its contract could not say what is written.
+// Both programs have this `main`: one function for both would be public, and no contract could say what it writes.
 fn main(rt: HostRuntime) -> io::Result<()> {
     let heap = rt.alloc();
     let mut input = Vec::new(heap);

@@ -34,7 +34,7 @@ impl Cursor<'_> {
         )
     }
 
-    // A statement begins here.
+    // A statement begins here. A match: all keywords but two begin one, which no pattern says.
     pub(crate) fn at_statement(&self) -> bool
         ensures { result ≡ begins (kind_at (left self.now)) }
     {

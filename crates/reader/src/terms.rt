@@ -91,7 +91,8 @@ impl Code {
         Ok(())
     }
 
-    // What stands in parentheses. `merged`, here and below, says that it may be a condition too, and `must` that it has to be one: the grammar's own arguments.
+    // What stands in parentheses. `merged`, here and below, says that it may be a condition too, and `must` that it has to be one:
+    // the grammar's own arguments, by which the type of what is read goes.
     #[cycle(terms)]
     fn inside(
         &mut self,
@@ -109,7 +110,8 @@ impl Code {
     }
 
     // A cast or a group, after its opening parenthesis.
-    // `depth ≤ 64` is in five contracts, since a token was passed there: a type for it would be taken apart again at each mark that is wanted at `depth`.
+    // `depth ≤ 64` is in five contracts, since a token was passed there: a type for it would be taken apart again at each
+    // mark that is wanted at `depth`.
     #[cycle(terms)]
     fn bracket(
         &mut self,
@@ -203,7 +205,8 @@ impl Code {
         }
     }
 
-    // The rest of a chain of binary operators, after its first operand: that begins at the offset `start`, and its code at the node `from`.
+    // The rest of a chain of binary operators, after its first operand: that begins at the offset `start`, and its code at the node `from`. Three contracts
+    // say that `from` lies within the code: no type can hold that of code which is another value.
     #[cycle(terms)]
     fn chain(
         &mut self,
@@ -285,7 +288,7 @@ impl Code {
         }
     }
 
-    // A chain of conditions, or a negation or a comparison.
+    // A chain of conditions, or a negation or a comparison. Not `level` over another enum: what goes on, what begins there and where a node is put are others.
     #[cycle(terms)]
     fn conditions(
         &mut self,

@@ -89,16 +89,19 @@ fn refusal_text(heap: Global, refusal: ReadRefusal) -> Result<String, AllocError
     format!(in heap; "{number} at {at}")
 }
 
-fn read_text(heap: Global, source: &[u8]) -> Result<String, AllocError> {
+// What a source is read as; without its words where they would be too many.
+fn read_text(heap: Global, source: &[u8], in_words: bool) -> Result<String, AllocError> {
     let mut script = ReadScript::new(heap)?;
     match script.read(source) {
-        Ok(()) => code_text(heap, &script),
+        Ok(()) if in_words => code_text(heap, &script),
+        Ok(()) => String::from_str(heap, "read"),
         Err(refusal) => refusal_text(heap, refusal),
     }
 }
 
+// As in the tests of tokens, but for what makes the text.
 fn check_read(heap: Global, source: &[u8], words: &str, what: &str) -> Result<(), Fail> {
-    let text = read_text(heap, source)?;
+    let text = read_text(heap, source, true)?;
     check_text(text.as_str(), words, what)
 }
 
@@ -256,26 +259,20 @@ fn refusals(rt: HostRuntime) -> Result<(), Fail> {
     check_read(heap, b"int f() { \xff", "2 at 10", "a byte above 127")
 }
 
-// A body: what it begins with, so many times the front, the middle, and so many times the back. No struct: each row of the tables would be longer.
-fn nested(
-    heap: Global,
-    begin: &str,
-    count: usize,
-    front: &str,
-    middle: &str,
-    back: &str,
-) -> Result<String, AllocError> {
-    let fronts = front.repeat(heap, count)?;
-    let backs = back.repeat(heap, count)?;
-    format!(in heap; "int main(int a) {{ {begin}{fronts}{middle}{backs} }}")
-}
+// How often the front and the back stand, the front, what is between them, the back, and what comes of it.
+type Nested<'a> = (usize, &'a str, &'a str, &'a str, &'a str);
 
-fn check_verdict(heap: Global, source: &[u8], verdict: &str, what: &str) -> Result<(), Fail> {
-    let mut script = ReadScript::new(heap)?;
-    match script.read(source) {
-        Ok(()) => check_text("read", verdict, what),
-        Err(refusal) => check_text(&refusal_text(heap, refusal)?, verdict, what),
+// Each row is a body between the same begin and end.
+fn check_nested(heap: Global, begin: &str, rows: &[Nested], end: &str) -> Result<(), Fail> {
+    for (count, front, middle, back, verdict) in rows {
+        let fronts = front.repeat(heap, *count)?;
+        let backs = back.repeat(heap, *count)?;
+        let source = format!(in heap; "int main(int a) {{ {begin}{fronts}{middle}{backs} {end}")?;
+        let what = format!(in heap; "{count} times {front:?} and {middle:?}")?;
+        let text = read_text(heap, source.as_bytes(), false)?;
+        check_text(text.as_str(), verdict, &what)?;
     }
+    Ok(())
 }
 
 #[test]
@@ -306,11 +303,7 @@ fn limits(rt: HostRuntime) -> Result<(), Fail> {
             "5 at 4041",
         ),
     ];
-    for (count, front, middle, back, verdict) in rows {
-        let source = nested(heap, "", count, front, middle, back)?;
-        let what = format!(in heap; "{count} times {front:?} and {middle:?}")?;
-        check_verdict(heap, source.as_bytes(), verdict, &what)?;
-    }
+    check_nested(heap, "", &rows, "}")?;
     let long = vec![in heap; b' '; 8193]?;
     check_read(heap, &long, "1 at 8192", "8,193 blanks")?;
     check_read(heap, &long[0..8192], "", "8,192 blanks")
@@ -321,25 +314,18 @@ fn limits(rt: HostRuntime) -> Result<(), Fail> {
 fn deep_expressions(rt: HostRuntime) -> Result<(), Fail> {
     let heap = rt.alloc();
     let rows = [
-        ("return ", 63, "(", "a", ")", "read"),
-        ("return ", 64, "(", "a", ")", "5 at 89"),
-        ("return ", 63, "-", "a", "", "read"),
-        ("return ", 64, "-", "a", "", "5 at 89"),
-        ("return ", 63, "(int)", "a", "", "read"),
-        ("return ", 64, "(int)", "a", "", "5 at 345"),
-        ("return ", 63, "f(", "a", ")", "read"),
-        ("return ", 64, "f(", "a", ")", "5 at 153"),
-        ("return ", 32, "-(", "a", ")", "5 at 89"),
-        ("return ", 31, "(int)(", "a", ")", "read"),
+        (63, "(", "a", ")", "read"),
+        (64, "(", "a", ")", "5 at 89"),
+        (63, "-", "a", "", "read"),
+        (64, "-", "a", "", "5 at 89"),
+        (63, "(int)", "a", "", "read"),
+        (64, "(int)", "a", "", "5 at 345"),
+        (63, "f(", "a", ")", "read"),
+        (64, "f(", "a", ")", "5 at 153"),
+        (32, "-(", "a", ")", "5 at 89"),
+        (31, "(int)(", "a", ")", "read"),
     ];
-    for (begin, count, front, middle, back, verdict) in rows {
-        let mut source = nested(heap, begin, count, front, middle, back)?;
-        let _ = source.pop();
-        source.push_str(";}")?;
-        let what = format!(in heap; "{count} times {front:?}")?;
-        check_verdict(heap, source.as_bytes(), verdict, &what)?;
-    }
-    Ok(())
+    check_nested(heap, "return ", &rows, ";}")
 }
 
 // Negations and parentheses inside a condition, whose own parenthesis counts too.
@@ -352,12 +338,7 @@ fn deep_conditions(rt: HostRuntime) -> Result<(), Fail> {
         (62, "(", "a < 1", ")", "4 at 152"),
         (63, "(", "a < 1", ")", "5 at 85"),
     ];
-    for (count, front, middle, back, verdict) in rows {
-        let source = nested(heap, "if (", count, front, middle, back)?;
-        let what = format!(in heap; "{count} times {front:?} and {middle:?}")?;
-        check_verdict(heap, source.as_bytes(), verdict, &what)?;
-    }
-    Ok(())
+    check_nested(heap, "if (", &rows, "}")
 }
 
 // A refused read leaves the script of an empty source.

@@ -186,7 +186,7 @@ pub enum BuiltIn {
     SetRight,
 }
 
-// An entry of a checked script's code: entry for entry the flat code, with its names resolved. A slot counts from the bottom of the call's values, a
+// An entry of a checked script's code, run in place as it is: entry for entry the flat code, with its names resolved. A slot counts from the bottom of the call's values, a
 // function is the index of its definition. `Heading` stands for a function's declaration and its formals; it is never run, and nor is `Leave`.
 #[derive(Clone, Copy, Debug)]
 pub enum Instr {

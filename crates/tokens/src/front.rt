@@ -1,7 +1,9 @@
 // What stands first in a text.
-ghost use Rattle.std.specs.Prelude.{◌≡◌, ℕ, Bool, [], ◌∷◌, MatchOption};
+ghost use Rattle.std.specs.Prelude.{◌≡◌, ℕ, Bool, cond, [], ◌∷◌, MatchOption};
 ghost use Rattle.std.specs.List.{take_while};
-ghost use Rattle.tokens.specs.Scan.{Answers, starts, word, number, comment, one, one_or_two, two, front_by};
+ghost use Rattle.tokens.specs.declared.types.Trouble.TheVariants.{NoToken};
+ghost use Rattle.tokens.specs.Spelling.{mark, trouble};
+ghost use Rattle.tokens.specs.Scan.{Answers, found, stop, starts, word, number, comment, one, front_by};
 ghost use Rattle.tokens.specs.State.{front_of};
 
 use crate::begun::Begun;
@@ -31,6 +33,12 @@ fn one<'a>(mark: Mark) -> Ahead<'a>
     ensures { front_of result ≡ one mark }
 {
     Ahead::Found(1, Token::Mark(mark))
+}
+
+fn no_token<'a>() -> Ahead<'a>
+    ensures { front_of result ≡ stop (trouble NoToken) }
+{
+    Ahead::Stop(Token::Trouble(Trouble::NoToken))
 }
 
 impl<'a> Begun<'a> {
@@ -66,7 +74,7 @@ impl<'a> Begun<'a> {
         ensures { front_of result ≡ comment self.now.after.now }
     {
         if !self.next_is(b'*') {
-            return Ahead::Stop(Token::Trouble(Trouble::NoToken));
+            return no_token();
         }
         match body_len(&self.after[1..]) {
             Some(n) => Ahead::Gap(n + 4),
@@ -74,24 +82,14 @@ impl<'a> Begun<'a> {
         }
     }
 
-    // A mark of two bytes where the second stands there, else one of one byte.
-    fn one_or_two(&self, second: u8, short: Mark, long: Mark) -> Ahead<'a>
-        ensures { front_of result ≡ one_or_two second short long self.now.after.now }
+    // A mark of two bytes where the second stands there, else what stands here alone.
+    fn two_or(&self, second: u8, long: Mark, alone: Ahead<'a>) -> Ahead<'a>
+        ensures { front_of result ≡ cond (starts second self.now.after.now) (found 2 (mark long)) (front_of alone.entry) }
     {
         if self.next_is(second) {
             Ahead::Found(2, Token::Mark(long))
         } else {
-            one(short)
-        }
-    }
-
-    fn two(&self, second: u8, mark: Mark) -> Ahead<'a>
-        ensures { front_of result ≡ two second mark self.now.after.now }
-    {
-        if self.next_is(second) {
-            Ahead::Found(2, Token::Mark(mark))
-        } else {
-            Ahead::Stop(Token::Trouble(Trouble::NoToken))
+            alone
         }
     }
 
@@ -109,18 +107,18 @@ impl<'a> Begun<'a> {
             Class::RightBrace => one(Mark::RightBrace),
             Class::Comma => one(Mark::Comma),
             Class::Semicolon => one(Mark::Semicolon),
-            Class::Equals => self.one_or_two(b'=', Mark::Assign, Mark::EqualEqual),
+            Class::Equals => self.two_or(b'=', Mark::EqualEqual, one(Mark::Assign)),
             Class::Plus => one(Mark::Plus),
             Class::Minus => one(Mark::Minus),
             Class::Star => one(Mark::Star),
             Class::Dot => one(Mark::Dot),
-            Class::Less => self.one_or_two(b'=', Mark::Less, Mark::LessEqual),
-            Class::Greater => self.one_or_two(b'=', Mark::Greater, Mark::GreaterEqual),
-            Class::Bang => self.one_or_two(b'=', Mark::Not, Mark::NotEqual),
-            Class::Ampersand => self.two(b'&', Mark::AndAnd),
-            Class::Pipe => self.two(b'|', Mark::OrOr),
+            Class::Less => self.two_or(b'=', Mark::LessEqual, one(Mark::Less)),
+            Class::Greater => self.two_or(b'=', Mark::GreaterEqual, one(Mark::Greater)),
+            Class::Bang => self.two_or(b'=', Mark::NotEqual, one(Mark::Not)),
+            Class::Ampersand => self.two_or(b'&', Mark::AndAnd, no_token()),
+            Class::Pipe => self.two_or(b'|', Mark::OrOr, no_token()),
             Class::Slash => self.comment(),
-            Class::Other => Ahead::Stop(Token::Trouble(Trouble::NoToken)),
+            Class::Other => no_token(),
         }
     }
 }

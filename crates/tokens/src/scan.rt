@@ -14,10 +14,7 @@ impl Token<'_> {
     pub fn is_last(self) -> bool
         ensures { result ≡ final (symbol_of self.entry) }
     {
-        match self {
-            Token::End | Token::Trouble(_) => true,
-            Token::Name(_) | Token::Constant(_) | Token::Keyword(_) | Token::Mark(_) => false,
-        }
+        matches!(self, Token::End | Token::Trouble(_))
     }
 
     pub fn is_mark(self, mark: Mark) -> bool

@@ -67,7 +67,7 @@ pub(crate) fn keyword_of(word: &[u8]) -> Option<Keyword>
         .find(|keyword| is_spelled(*keyword, word))
 }
 
-// The value of a run of digits, unless it is above the largest.
+// The value of a run of digits, unless it is above the largest. By hand and no `parse`: the digits are bytes, and the clause holds of any bytes.
 pub(crate) fn value_of(digits: &[u8]) -> Option<u64>
     ensures { result ≡ value_of digits.now }
 {

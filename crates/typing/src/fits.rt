@@ -45,23 +45,22 @@ impl Operand {
     }
 }
 
+// What both operands must fit, and the type of the result.
+fn types_of(operator: Operator) -> (Type, Type)
+    ensures wanted { result.0 ≡ wants operator }
+    ensures given { result.1 ≡ gives operator }
+{
+    match operator {
+        Operator::Multiply | Operator::Add | Operator::Subtract => (Type::Int, Type::Int),
+        Operator::Dot => (Type::Q, Type::Ref),
+    }
+}
+
 // What both operands must fit.
 pub fn operator_wants(operator: Operator) -> Type
     ensures { result ≡ wants operator }
 {
-    match operator {
-        Operator::Multiply | Operator::Add | Operator::Subtract => Type::Int,
-        Operator::Dot => Type::Q,
-    }
-}
-
-fn operator_gives(operator: Operator) -> Type
-    ensures { result ≡ gives operator }
-{
-    match operator {
-        Operator::Multiply | Operator::Add | Operator::Subtract => Type::Int,
-        Operator::Dot => Type::Ref,
-    }
+    types_of(operator).0
 }
 
 pub fn type_of_negation(operand: Option<Type>) -> Option<Type>
@@ -80,11 +79,10 @@ pub fn type_of_cast(to: Type, operand: Option<Type>) -> Option<Type>
 pub fn type_of_binary(operator: Operator, left: Option<Type>, right: Option<Type>) -> Option<Type>
     ensures { result ≡ binary_type operator left right }
 {
-    let wanted = Want::Fit {
-        ty: operator_wants(operator),
-    };
+    let (ty, given) = types_of(operator);
+    let wanted = Want::Fit { ty };
     let both_fit = wanted.is_met_by_known(left) && wanted.is_met_by_known(right);
-    both_fit.then_some(operator_gives(operator))
+    both_fit.then_some(given)
 }
 
 // A call at this place may stand in a function of the first mutability and call one of the second.

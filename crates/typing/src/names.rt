@@ -131,6 +131,7 @@ impl Table<'_> {
     }
 }
 
+// 0 where there is none, as the definition has it: whoever asks has noted the fault before.
 pub fn slot_seen(variable: Option<Variable>) -> usize
     ensures { result ≡ slot_of variable }
 {
