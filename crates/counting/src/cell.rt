@@ -13,7 +13,8 @@ pub struct Pair {
 }
 
 // The free list and the worklist are threaded through the cells by places' numbers, since nothing allocates after `new`.
-// A link is a number and no `Option` of an address: a list ends at a place whose cell is not in it, and the first links would be `Address { at: 0 }`.
+// A link is a number and no `Option` of an address: a list ends at a place whose cell is not in it, and the first links
+// would be `Address { at: 0 }`.
 #[derive(Clone, Copy)]
 pub enum Cell {
     // The next place of the free list, which ends where that is not free.

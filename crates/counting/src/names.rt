@@ -53,6 +53,7 @@ pub(crate) fn lower(places: &mut Places<Cell>, value: Value, dying: u16) -> u16
     dying
 }
 
+// Keep-all's `with_slot` has this match, and answers a cell: what a function of both answers each would take apart.
 pub(crate) fn set_slot(places: &mut Places<Cell>, place: Address, side: Side, value: Value)
     ensures cells { places_of places.new ≡ slice_set (places_of places.old) place.at (with_slot_of (cell_at (places_of places.old) place.at) side value) }
     ensures spare { SameSpare places.old places.new }

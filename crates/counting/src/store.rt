@@ -10,7 +10,8 @@ use crate::cell::{Cell, Pair};
 use crate::names::{at, lower, raise, set_slot};
 use heap::{Address, Places, Side, Value};
 
-// No invariant of its own: the steps of a call go through cells that are not sound, and `CountingHeap` has it between calls.
+// No invariant of its own: the steps of a call go through cells that are not sound, and `CountingHeap` has it between
+// calls. `SameSpare`, in each step: a fact about two states, which no field or model can hold.
 #[derive(Drop)]
 pub(crate) struct Store {
     pub(crate) places: Places<Cell>,

@@ -17,14 +17,14 @@ pub enum Cell {
 }
 
 impl Cell {
-    // A free cell, to build the vector from that a heap is given.
+    // A free cell, to build the vector from that a heap is given. Each heap has a cell of its own, and so a `new`.
     pub fn new() -> Cell
         ensures { result ≡ Cell.Free }
     {
         Self::Free
     }
 
-    // A test, and no `Option` of what a taken cell has: each call wants one of its three parts.
+    // A test, and no `Option` of the parts: that takes a struct of the three beside this enum, and back at each write.
     pub(crate) fn is_taken(self) -> bool
         ensures { result ≡ is_taken (room_of self) }
     {
@@ -58,7 +58,8 @@ impl Cell {
         }
     }
 
-    // The match is that of counting's `set_slot`, which writes a field in place: what a function of both would answer each would have to take apart.
+    // The match is that of counting's `set_slot`, which writes a field in place: what a function of both would answer
+    // each would have to take apart.
     pub(crate) fn with_slot(self, side: Side, value: Value) -> Cell
         ensures { room_of result ≡ with_slot (room_of self) side value }
     {

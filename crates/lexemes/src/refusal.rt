@@ -6,7 +6,8 @@ use refusal_line::refusal_line;
 use std::alloc::{AllocError, Global};
 use tokens::Trouble;
 
-// Three of the reader's reasons: a program that lists tokens does not stand on the reader, so two numbers and two sentences stand in both.
+// Three of the reader's reasons: this program does not stand on the reader. Two numbers stand there too, and two
+// sentences in `outline`.
 #[derive(Clone, Copy)]
 pub enum Reason {
     LongSource,

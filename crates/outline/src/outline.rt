@@ -29,7 +29,8 @@ impl Outline<'_> {
         write!(self.text, "{at} {words}")
     }
 
-    // The same for the node that began last. The flat code begins each node that it ends, so the 0 is never written.
+    // The same for the node that began last. The flat code begins each node that it ends: the 0 is never written, and no
+    // more would an error be.
     fn begun_line(&mut self, words: &str) -> io::Result<()> {
         let at = self.begun.pop().unwrap_or(0);
         self.line(at, words)

@@ -3,7 +3,7 @@ use reader::{ReadRefusal, Reason};
 use refusal_line::refusal_line;
 use std::alloc::{AllocError, Global};
 
-// Words and no `Display`, as `refusal_line` takes them.
+// Words and no `Display`, as `refusal_line` takes them. Two are those of `lexemes`, which does not stand on the reader.
 fn words(reason: Reason) -> &'static str {
     match reason {
         Reason::TooLong => "a script has at most 8,192 bytes",

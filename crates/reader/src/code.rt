@@ -3,8 +3,9 @@ ghost use Rattle.std.specs.Prelude.{◌≤◌, vec_capacity};
 
 use script::{Declarator, Function, Node};
 
-// Readers take a cursor beside it, and say what room both leave (`Spare`, `Roomy`): a struct of both would hold a `&mut` to the script's code, and each
-// method would have to promise that it stays the same one. `depth` and offsets differ from call to call.
+// Readers take a cursor beside it, and say what room both leave (`Spare`, `Roomy`): a struct of both would hold a `&mut`
+// to the script's code, and each method would have to promise that it stays the same one. `depth` and offsets differ
+// from call to call.
 #[derive(Drop)]
 pub(crate) struct Code {
     pub(crate) nodes: Vec<Node>,

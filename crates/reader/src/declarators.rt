@@ -34,7 +34,7 @@ impl Cursor<'_> {
         )
     }
 
-    // A statement begins here. A match: all keywords but two begin one, which no pattern says.
+    // A statement begins here. A match: all keywords but two begin one, and a pattern would name the other nine.
     pub(crate) fn at_statement(&self) -> bool
         ensures { result ≡ begins (kind_at (left self.now)) }
     {

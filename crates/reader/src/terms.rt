@@ -60,6 +60,7 @@ impl Code {
             return Ok(0);
         }
         let inner = deeper(depth);
+        // `level` and no `expression`, here and in `compared`: that would be one function more in the cycle of proofs.
         self.level(cursor, inner, false, Some(Binding::Dot))?;
         let mut count = 1;
         while cursor.at_mark(Mark::Comma) {
@@ -205,8 +206,9 @@ impl Code {
         }
     }
 
-    // The rest of a chain of binary operators, after its first operand: that begins at the offset `start`, and its code at the node `from`. Three contracts
-    // say that `from` lies within the code: no type can hold that of code which is another value.
+    // The rest of a chain of binary operators, after its first operand: that begins at the offset `start`, which only
+    // this function takes, and its code at the node `from`. That `from` lies within the code is in three contracts: no
+    // type can hold that of code which is another value.
     #[cycle(terms)]
     fn chain(
         &mut self,
@@ -288,7 +290,8 @@ impl Code {
         }
     }
 
-    // A chain of conditions, or a negation or a comparison. Not `level` over another enum: what goes on, what begins there and where a node is put are others.
+    // A chain of conditions, or a negation or a comparison. Not `level` over another enum: what goes on, what begins
+    // there and where a node is put are others.
     #[cycle(terms)]
     fn conditions(
         &mut self,

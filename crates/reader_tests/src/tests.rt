@@ -99,7 +99,8 @@ fn read_text(heap: Global, source: &[u8], in_words: bool) -> Result<String, Allo
     }
 }
 
-// As in the tests of tokens, but for what makes the text. A source, its text and its label stay parameters: rows are not all built alike.
+// The tests of tokens have these two lines over another text: what both share is a library, `check_text`. A source, its
+// text and its label stay parameters: rows are not all built alike.
 fn check_read(heap: Global, source: &[u8], words: &str, what: &str) -> Result<(), Fail> {
     let text = read_text(heap, source, true)?;
     check_text(text.as_str(), words, what)

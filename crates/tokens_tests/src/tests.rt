@@ -50,7 +50,8 @@ fn items_text(heap: Global, source: &[u8]) -> Result<String, AllocError> {
     Ok(text)
 }
 
-// As in the tests of reading, but for what makes the text. A source, its items and its label stay parameters: rows are not all built alike.
+// The tests of reading have these two lines over another text: what both share is a library, `check_text`. A source, its
+// items and its label stay parameters: rows are not all built alike.
 fn check_items(heap: Global, source: &[u8], items: &str, what: &str) -> Result<(), Fail> {
     let text = items_text(heap, source)?;
     check_text(text.as_str(), items, what)

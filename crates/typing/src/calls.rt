@@ -161,7 +161,8 @@ impl Table<'_> {
         }
     }
 
-    // The match stands in `note_call` too: a built-in's formals are types and a definition's are declarators, so no one slice is both.
+    // The match stands in `note_call` too: a built-in's formals are types and a definition's are declarators, so no one
+    // slice is both.
     fn do_actuals_fit(&self, call: &Call, callee: Callee) -> bool
         ensures { result ≡ all_fit (actuals_of call.now) (takes (ctx_of self.now) callee) }
     {

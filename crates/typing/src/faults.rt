@@ -45,7 +45,8 @@ impl LeastFault {
         self.demand(holds, operand.start, Reason::Unfit);
     }
 
-    // A name that is declared is not in view. What a name means and where it stands are two things to a caller, who has them apart: no struct.
+    // A name that is declared is not in view. What a name means and where it stands are two things to a caller, who has
+    // them apart: no struct.
     pub fn want_unseen(&mut self, variable: Option<Variable>, at: usize)
         ensures { self.new.found ≡ noted self.old.found (seen variable at) }
     {

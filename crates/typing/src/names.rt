@@ -131,7 +131,7 @@ impl Table<'_> {
     }
 }
 
-// 0 where there is none, as the definition has it: whoever asks has noted the fault before.
+// 0 where there is none, as its promise has it: who must tell the two has the `Option` that is asked of.
 pub fn slot_seen(variable: Option<Variable>) -> usize
     ensures { result ≡ slot_of variable }
 {

@@ -29,8 +29,9 @@ pub enum CallPlace {
     Statement,
 }
 
-// A call whose actuals were gone through: they are the last `count` of the operands. `in_mutable`: it stands in a mutable function. A count and no
-// slice of the actuals: it may be above the number of operands, and such a call is judged too.
+// A call whose actuals were gone through: they are the last `count` of the operands. `in_mutable`: it stands in a
+// mutable function. A count and no slice of the actuals: it may be above the number of operands, and such a call is
+// judged too.
 #[derive(Clone, Copy)]
 pub struct Call<'o> {
     pub name: Name,
@@ -77,7 +78,8 @@ pub struct LeastFault {
     pub found: Option<CheckRefusal>,
 }
 
-// A source and the table of its functions, their formals one after the other. No `impl Model`: with a lifetime it could not be `Copy`.
+// A source and the table of its functions, their formals one after the other. No `impl Model`: with a lifetime it could
+// not be `Copy`.
 #[derive(Clone, Copy)]
 pub struct Table<'s> {
     pub source: &'s [u8],

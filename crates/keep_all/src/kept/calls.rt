@@ -42,6 +42,7 @@ impl KeepAllHeap {
         self.places.get(place).unwrap_or(Cell::Free)
     }
 
+    // `SameSpare`, here and in each call: a fact about two states, which no field or model can hold.
     fn write(&mut self, place: Address, cell: Cell)
         requires { Closed (slice_set (model_of self.old) place.at (room_of cell)) }
         ensures model { model_of self.new ≡ slice_set (model_of self.old) place.at (room_of cell) }
