@@ -11,15 +11,24 @@ pub enum Type {
     Q,
 }
 
+impl Type {
+    // The keyword that names the type. Beside `Display`, which is slow where bytes are written.
+    pub fn text(self) -> &'static str
+        ensures { result.now ≡ type_text self }
+    {
+        match self {
+            Type::Int => "int",
+            Type::Ref => "Ref",
+            Type::Q => "Q",
+        }
+    }
+}
+
 impl fmt::Display for Type {
     ghost output = { λ ty. Some (type_text ty) };
 
     fn fmt<W: fmt::Write>(&self, f: &mut fmt::Formatter<W>) -> fmt::Result {
-        f.write_str(match self {
-            Type::Int => "int",
-            Type::Ref => "Ref",
-            Type::Q => "Q",
-        })
+        f.write_str(self.text())
     }
 }
 

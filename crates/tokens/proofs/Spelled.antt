@@ -43,7 +43,7 @@ token_taken n (mark m) = refl
 token_taken n end = refl
 token_taken n (trouble t) = refl
 
-run_all : (p : ℕ → Bool) (bs : List ℕ) → All p bs → prefix_len p bs ≡ length bs
+pub run_all : (p : ℕ → Bool) (bs : List ℕ) → All p bs → prefix_len p bs ≡ length bs
 run_all p [] h = refl
 run_all p (b ∷ bs) (here, h) = let on = cond-true (p b) (1 + prefix_len p bs) 0 here in let rest = run_all p bs h in omega arith
 
@@ -55,7 +55,7 @@ front_by_lem c b bs e = ap (λ d. front_by d b bs) e
 take_run : (p : ℕ → Bool) (bs : List ℕ) → All p bs → take (prefix_len p bs) bs ≡ bs
 take_run p bs h = ap (λ n. take n bs) (run_all p bs h) ∙ take-length bs
 
-word_front : (b : ℕ) (bs : List ℕ) → letter b ≡ true → All wordy bs → front (b ∷ bs) ≡ word (b ∷ bs)
+pub word_front : (b : ℕ) (bs : List ℕ) → letter b ≡ true → All wordy bs → front (b ∷ bs) ≡ word (b ∷ bs)
 word_front b bs h a = front_by_lem class.Letter b bs (letter_class b h) ∙ ap (λ w. word (b ∷ w)) (take_run wordy bs a)
 
 pub number_token : (n : ℕ) (ds : List ℕ) → number_by n (value_of ds) ≡ token_by n (constant (reading ds))
@@ -78,7 +78,7 @@ unfolding keyword_of
 name_front b bs h a apart = word_front b bs h a ∙ ap (λ o. found (length (b ∷ bs)) (word_symbol (b ∷ bs) o)) (no_keyword keywords (b ∷ bs) apart)
 
 -- computed at each keyword and each mark
-keyword_front : (k : Keyword) → front (keyword_text k) ≡ found (length (keyword_text k)) (keyword k)
+pub keyword_front : (k : Keyword) → front (keyword_text k) ≡ found (length (keyword_text k)) (keyword k)
 unfolding front keyword_of
 keyword_front Mutable = refl
 keyword_front Int = refl

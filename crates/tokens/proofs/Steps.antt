@@ -29,7 +29,7 @@ later_within : (n : ℕ) (o : Option ℕ) → Within n o → Within (suc n) (lat
 later_within n None h = tt
 later_within n (Some k) h = omega arith
 
-closing_within : (bs : List ℕ) → Within (length bs) (closing bs)
+pub closing_within : (bs : List ℕ) → Within (length bs) (closing bs)
 unfolding closing
 closing_within [] = tt
 closing_within (b ∷ bs) =
@@ -112,7 +112,7 @@ drop_shorter : (k n : ℕ) (bs : List ℕ) → 0 < k → k ≤ length bs → len
 drop_shorter k n bs l h f = simp length-drop (omega arith)
 
 -- turns beyond the length change nothing
-enough_turns : (n m at : ℕ) (bs : List ℕ) → length bs < n → length bs < m → lexed_by n at bs ≡ lexed_by m at bs
+pub enough_turns : (n m at : ℕ) (bs : List ℕ) → length bs < n → length bs < m → lexed_by n at bs ≡ lexed_by m at bs
 unfolding lexed_by
 enough_turns zero m at bs f g = absurd (omega arith)
 enough_turns (suc n) zero at bs f g = absurd (omega arith)

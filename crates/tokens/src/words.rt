@@ -1,5 +1,5 @@
 // The parts of a token that are longer than a mark: words, constants, and the comments between tokens.
-ghost use Rattle.std.specs.Prelude.{◌≡◌, ℕ, ◌+◌, ◌<◌, ◌↔◌, IsTrue, IfSome, IfNone, codes};
+ghost use Rattle.std.specs.Prelude.{◌≡◌, ℕ, ◌+◌, ◌<◌, ◌↔◌, [], ◌∷◌, IsTrue, IfSome, IfNone, codes, find};
 ghost use Rattle.std.specs.Str.{bytes_eq};
 ghost use Rattle.byte_class.specs.Classes.{digit};
 ghost use Rattle.tokens.specs.Spelling.{keyword_text, wordy};
@@ -9,20 +9,6 @@ use crate::types::Keyword;
 use byte_class::{Class, class_at};
 
 const LARGEST: u128 = 9223372036854775807;
-
-const KEYWORDS: [Keyword; 11] = [
-    Keyword::Mutable,
-    Keyword::Int,
-    Keyword::Ref,
-    Keyword::Q,
-    Keyword::If,
-    Keyword::Else,
-    Keyword::While,
-    Keyword::Free,
-    Keyword::Print,
-    Keyword::Return,
-    Keyword::Nil,
-];
 
 pub(crate) fn is_word_byte(b: u8) -> bool
     ensures { result ≡ wordy b }
@@ -50,21 +36,29 @@ pub(crate) fn body_len(text: &[u8]) -> Option<usize>
     text.windows(2).position(|pair| is_closing(pair))
 }
 
-fn is_spelled(keyword: Keyword, word: &[u8]) -> bool
-    ensures { result ≡ bytes_eq word.now (keyword_text keyword) }
+// The keyword, if the word spells it.
+fn spelled(keyword: Keyword, word: &[u8]) -> Option<Keyword>
+    ensures { result ≡ find (λ k. bytes_eq word.now (keyword_text k)) (keyword ∷ []) }
 {
-    keyword.text() == word
+    (keyword.text() == word).then_some(keyword)
 }
 
-// The keyword that is spelled so, if one is.
-#[tactic(auto, unfolding(crate::specs::Scan::keyword_of))]
+// The keyword that is spelled so, if one is. By the length first: so a name is compared with three keywords at most.
 pub(crate) fn keyword_of(word: &[u8]) -> Option<Keyword>
     ensures { result ≡ keyword_of word.now }
 {
-    KEYWORDS
-        .iter()
-        .copied()
-        .find(|keyword| is_spelled(*keyword, word))
+    match word.len() {
+        1 => spelled(Keyword::Q, word),
+        2 => spelled(Keyword::If, word),
+        3 => spelled(Keyword::Int, word)
+            .or(spelled(Keyword::Ref, word))
+            .or(spelled(Keyword::Nil, word)),
+        4 => spelled(Keyword::Else, word).or(spelled(Keyword::Free, word)),
+        5 => spelled(Keyword::While, word).or(spelled(Keyword::Print, word)),
+        6 => spelled(Keyword::Return, word),
+        7 => spelled(Keyword::Mutable, word),
+        _ => None,
+    }
 }
 
 // The value of a run of digits, unless it is above the largest. By hand and no `parse`: the digits are bytes, and the clause holds of any bytes.

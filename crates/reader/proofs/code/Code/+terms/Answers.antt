@@ -8,7 +8,7 @@ use Rattle.reader.proofs.Lists.{start_list, list_turn, list_done, list_open, lis
 use Rattle.reader.proofs.Deep.{passed_in, stuck_in, stops_in, went_in}
 use Rattle.reader.proofs.Operands.{IsNoOperand, named_variable, named_stuck, named_broke, named_call, inside_merged, inside_plain, cast_stuck, cast_open, cast_broke, cast_done, group_broke, group_open, group_done, constant_stuck, constant_done, name_stuck, name_broke, name_done, nil_stuck, nil_done, minus_stuck, minus_broke, minus_done, operand_wrong, bracket_stuck, bracket_done}
 use Rattle.reader.specs.Binding.{rank, join_rank}
-use Rattle.reader.proofs.Ranks.{some_rank, some_join}
+use Rattle.reader.proofs.Ranks.{some_rank, some_join, stops_at, gave_at}
 use Rattle.reader.proofs.Levels.{level_operand, level_fails, level_condition, level_broke, level_done, operators_done, operators_stuck, operators_broke, operators_again}
 use Rattle.reader.proofs.Conditions.{compared_stuck, compared_broke, compared_done, compared_wrong, compared_none, not_stuck, not_broke, not_done, thing_broke, thing_condition, thing_expression, conditions_one, conditions_fail, conditions_expression, conditions_broke, conditions_done, joins_done, joins_stuck, joins_broke, joins_again}
 use Rattle.reader.proofs.code.Code.+terms.Goals as goal
@@ -177,10 +177,10 @@ chain-returns-in_err-take t c =
 
 pub chain-returns-in_err-level : goal.chain-returns-in_err-level
 chain-returns-in_err-level t c =
-    rw (exits c.from_residual-in_err-level.result c.from_residual-in_err-level.ensures.1) (operators_broke c.args.depth _ c.args.start c.loop-operator.invariant c.in-Some.ensures.0 c.in_ok-take.ensures (rw c.tighter.ensures at c.in_err-level.ensures))
+    rw (exits c.from_residual-in_err-level.result c.from_residual-in_err-level.ensures.1) (operators_broke c.args.depth _ c.args.start c.loop-operator.invariant c.in-Some.ensures.0 c.in_ok-take.ensures (stops_at c.args.depth c.tighter.ensures c.in_err-level.ensures))
 
 pub chain-loop-operator-preserved : goal.chain-loop-operator-preserved
-chain-loop-operator-preserved t c = operators_again c.args.depth _ c.args.start c.loop-operator.invariant c.in-Some.ensures.0 c.in_ok-take.ensures c.in-Some.ensures.1 c.insert.ensures (rw c.tighter.ensures at c.in_ok-level.ensures) c.push.ensures
+chain-loop-operator-preserved t c = operators_again c.args.depth _ c.args.start c.loop-operator.invariant c.in-Some.ensures.0 c.in_ok-take.ensures c.in-Some.ensures.1 c.insert.ensures (gave_at c.args.depth c.tighter.ensures c.in_ok-level.ensures) c.push.ensures
 
 pub chain-returns : goal.chain-returns
 chain-returns t c = operators_done c.args.depth _ c.args.start c.loop-operator.invariant c.in_default.ensures
