@@ -21,7 +21,7 @@ reason_words TooMany = codes "this is token 2,049, and a script has at most 2,04
 abbrev pub line_of_refusal : List ℕ → ReadRefusal → List ℕ
 line_of_refusal source r = refusal_line source (reason_number r.reason) r.at (reason_words r.reason)
 
--- a source is read, or a text is the line of its refusal; what the text is of a source that is read is not said
+-- a source is read, or a text is the line of a refusal whose offset and number are right; what the text is of a source that is read is not said
 pub data ReadOrRefused (bs text : List ℕ) : Type 0 where
   read : (s : ReadScript) → HasRead bs s → ReadOrRefused bs text
   refused : (r : ReadRefusal) → NotRead bs r → text ≡ line_of_refusal bs r → ReadOrRefused bs text

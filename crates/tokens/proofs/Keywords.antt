@@ -33,8 +33,8 @@ keyword_found bs =
     find_weaker (λ k. bytes_eq bs (keyword_text k)) (λ k. length (keyword_text k) == length bs) (λ k e. eq-eqb _ _ (ap length (sym ((bytes_eq-Decides bs (keyword_text k)).0 e)))) keywords
 
 -- what is found among the keywords of the word's length is what is found among all
-pub keyword_among : (bs : List ℕ) (n : ℕ) (r : Option Keyword) → length bs ≡ n → r ≡ find (λ k. bytes_eq bs (keyword_text k)) (keywords_of n) → r ≡ keyword_of bs
-keyword_among bs n r long is = is ∙ ap (λ n. find (λ k. bytes_eq bs (keyword_text k)) (keywords_of n)) (sym long) ∙ keyword_found bs
+pub keyword_by_length : (bs : List ℕ) (n : ℕ) (r : Option Keyword) → length bs ≡ n → r ≡ find (λ k. bytes_eq bs (keyword_text k)) (keywords_of n) → r ≡ keyword_of bs
+keyword_by_length bs n r long is = is ∙ ap (λ n. find (λ k. bytes_eq bs (keyword_text k)) (keywords_of n)) (sym long) ∙ keyword_found bs
 
 -- what is found among some keywords, or else among others
 pub among_either : (bs : List ℕ) (ks ls : List Keyword) (r s t : Option Keyword) → r ≡ find (λ k. bytes_eq bs (keyword_text k)) ks → s ≡ find (λ k. bytes_eq bs (keyword_text k)) ls → t ≡ option_or r s → t ≡ find (λ k. bytes_eq bs (keyword_text k)) (ks ++ ls)
